@@ -1,0 +1,2 @@
+-- Positional numerals.
+pub mod Numeral

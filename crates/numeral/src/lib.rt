@@ -1,0 +1,1 @@
+// Positional numerals in any base: definitions in specs/, laws in proofs/. No code.

@@ -1,0 +1,239 @@
+-- A bank is refused by the first rule that applies; taken, it is the bank of its tag.
+use Prim.Native.Nat.{ℕ, _+_, _-_, _*_, _^_, _≤_, _<_}
+use mathlib.Core.Path.{_≡_, refl, sym, _∙_, ap}
+use mathlib.Core.Logic.{_⊎_, inl, inr, _↔_, Iff·rfl, Iff·trans}
+use mathlib.Core.List.{List, [], _∷_, _++_}
+use mathlib.Core.Option.{Option, some}
+use mathlib.Core.Bool.{Bool, true, false, _&&_, not, cond}
+use native.Mathlib.Omega.{arith}
+use native.Mathlib.Nat.{le-trans, pow-le-pow-right}
+use lib.Dec.{T, T-not, leb, ltb, eqb, leb→le, ltb→lt, nltb→le, nleb→lt, eqb→eq, lit<}
+use lib.ListN.{length, getD, take, drop, replicate, length-take, length-drop}
+use lib.Seq.{drop-drop, length-take-le, drop-cons, getD-drop}
+use Rattle.numeral.specs.Numeral.{value, Digits, spread}
+use Rattle.numeral.proofs.Values.{digits-at, digits-take, digits-drop, value-lt}
+use Rattle.numeral.proofs.Spreads.{length-spread, digits-spread}
+use Rattle.numeral.proofs.Fields.{field-more}
+use Rattle.rules.specs.Answers.{taken, _>>=_, _>>_, demand, given}
+use Rattle.rules.specs.Schemes.{Parts, F, integers, _then_, _zeros_, E, Scheme, schemes, about, words, zeroBits}
+use Rattle.rules.specs.Grammar.{layout, Fits}
+use Rattle.rules.specs.Coding.{binary, coded, at, wordCount, bankSize}
+use Rattle.rules.specs.BankNumbers.{allZero, headed, codeIn, fieldsIn, tagOfBank}
+use Rattle.rules.specs.Raw.{rawText, rawOfBank}
+use Rattle.rules.specs.Conditions.{Rule, rule, OfBank, OneAfter, NoRow, LargePrefix, LargeReference, WrongLast, rawRules, bankRules}
+use Rattle.rules.proofs.Tests.{both, and, eq→eqb, apart, all-at, not-all}
+use Rattle.rules.proofs.Answers.{Gives, Decides, decided, Settled, Reads, settled-demand, settled-given, settled-as, step, check, reads-map, done, same, reads-covers}
+use Rattle.rules.proofs.Codes.{content, sizes, headed-of}
+use Rattle.rules.proofs.Banks.{Shown, control-is, code-is}
+use Rattle.rules.proofs.CodeReads.{take-inside, parts-read}
+
+-- n bits are a number below 2 ^ n
+pub at-lt : (b : List ℕ) (a n : ℕ) → at b a n < 2 ^ n
+at-lt b a n =
+    let S = drop (a - 0x10) (spread 2 8 b) in
+    let h = value-lt 2 (take n S) (digits-take 2 n S (digits-drop 2 (a - 0x10) (spread 2 8 b) (digits-spread 2 8 b (lit< tt)))) in
+    le-trans h (pow-le-pow-right (lit< tt) (rw length-take (omega arith)))
+
+-- Rules 9 to 12: the length and the control word.
+abbrev Short : List ℕ → Type 0
+Short b = (length b < 2) ⊎ (length b < bankSize (wordCount b))
+
+abbrev enough : List ℕ → Bool
+enough b = leb 2 (length b) && leb (bankSize (wordCount b)) (length b)
+
+enough-is : (b : List ℕ) → T (enough b) → (2 ≤ length b) × (bankSize (wordCount b) ≤ length b)
+enough-is b h = let (x, y) = both (leb 2 (length b)) (leb (bankSize (wordCount b)) (length b)) h in (leb→le 2 (length b) x, leb→le (bankSize (wordCount b)) (length b) y)
+
+short-is : (b : List ℕ) → T (not (enough b)) → Short b
+short-is b h = go (leb 2 (length b)) refl h
+  where
+    go : (x : Bool) → leb 2 (length b) ≡ x → T (not (x && leb (bankSize (wordCount b)) (length b))) → Short b
+    go true e h = inr (nleb→lt (bankSize (wordCount b)) (length b) h)
+    go false e h = inl (nleb→lt 2 (length b) (rw e tt))
+
+not-short : (b : List ℕ) → T (enough b) → ¬ (Short b)
+not-short b h (inl k) = omega (arith, enough-is b h)
+not-short b h (inr k) = omega (arith, enough-is b h)
+
+settled-9 : (b : List ℕ) → Settled 9 (Short b) (λ _. T (enough b)) (demand (enough b) 9)
+settled-9 b = settled-demand 9 (Short b) (enough b) (short-is b) (not-short b)
+
+settled-10 : (W : ℕ) → Settled 10 (W ≡ 0) (λ _. T (ltb 0 W)) (demand (ltb 0 W) 10)
+settled-10 W = settled-demand 10 (W ≡ 0) (ltb 0 W) (λ t. omega (arith, nltb→le 0 W t)) (λ t e. omega (arith, ltb→lt 0 W t))
+
+settled-11 : (t : ℕ) → t < 2 → Settled 11 (t ≡ 1) (λ _. T (eqb t 0)) (demand (eqb t 0) 11)
+settled-11 t l = settled-demand 11 (t ≡ 1) (eqb t 0) (λ h. omega (arith, apart t 0 h)) (λ h e. omega (arith, eqb→eq t 0 h))
+
+-- two bits are 0 exactly if each of them is
+settled-12 : (x y u v : ℕ) → u ≡ x * 2 + y → Settled 12 (¬ ((x ≡ 0) × (y ≡ 0) × (v ≡ 0))) (λ _. T (eqb u 0 && eqb v 0)) (demand (eqb u 0 && eqb v 0) 12)
+settled-12 x y u v e = settled-demand 12 (¬ ((x ≡ 0) × (y ≡ 0) × (v ≡ 0))) (eqb u 0 && eqb v 0) some-one all-zero
+  where
+    some-one : T (not (eqb u 0 && eqb v 0)) → ¬ ((x ≡ 0) × (y ≡ 0) × (v ≡ 0))
+    some-one h (p, q, r) = T-not (eqb u 0 && eqb v 0) h (and (eqb u 0) (eqb v 0) (eq→eqb u 0 (omega arith)) (eq→eqb v 0 r))
+
+    all-zero : T (eqb u 0 && eqb v 0) → ¬ (¬ ((x ≡ 0) × (y ≡ 0) × (v ≡ 0)))
+    all-zero h f =
+        let (a, b) = both (eqb u 0) (eqb v 0) h in
+        let p = eqb→eq u 0 a in
+        f (omega arith, omega arith, eqb→eq v 0 b)
+
+control-bits : (b : List ℕ) → 2 ≤ length b → at b 0x15 2 ≡ at b 0x15 1 * 2 + at b 0x16 1
+control-bits b h = field-more 2 (spread 2 8 b) 5 1 1 (omega (arith, length-spread 2 8 b))
+
+-- A bank that has its words: the code is its bits from 20h on.
+module _ (b : List ℕ) (long : bankSize (wordCount b) ≤ length b) where
+  code-bits : Digits 2 (codeIn b)
+  code-bits = digits-take 2 (16 * wordCount b) (drop 16 (spread 2 8 b)) (digits-drop 2 16 (spread 2 8 b) (digits-spread 2 8 b (lit< tt)))
+
+  code-length : length (codeIn b) ≡ 16 * wordCount b
+  code-length = length-take-le (16 * wordCount b) (drop 16 (spread 2 8 b)) (rw length-drop (omega (arith, length-spread 2 8 b)))
+
+  code-seen : (p n : ℕ) → p + n ≤ 16 * wordCount b → at b (0x20 + p) n ≡ value 2 (take n (drop p (codeIn b)))
+  code-seen p n h =
+      let e : 0x20 + p - 0x10 ≡ 16 + p = omega arith in
+      rw (e, take-inside p n (16 * wordCount b) (drop 16 (spread 2 8 b)) h, drop-drop p 16 (spread 2 8 b))
+
+  bit-seen : (p : ℕ) → p < 16 * wordCount b → at b (0x20 + p) 1 ≡ getD (codeIn b) p 0
+  unfolding value
+  bit-seen p h =
+      rw (code-seen p 1 (omega arith), drop-cons (codeIn b) p 0 (rw code-length h)) (omega arith)
+
+  -- Rule 15: a bit behind the first n is 1.
+  tail-seen : (n i : ℕ) → i < length (drop n (codeIn b)) → at b (0x20 + (n + i)) 1 ≡ getD (drop n (codeIn b)) i 0
+  tail-seen n i l = bit-seen (n + i) (omega (arith, length-drop n (codeIn b), code-length)) ∙ sym (getD-drop n (codeIn b) i 0)
+
+  one-after : (n : ℕ) → T (not (allZero (drop n (codeIn b)))) → OneAfter b n
+  one-after n h =
+      let c = drop n (codeIn b) in
+      let (i, l, k) = not-all (λ x. eqb x 0) c h in
+      let bit = digits-at 2 c i (digits-drop 2 n (codeIn b) code-bits) l in
+      (0x20 + (n + i), omega arith, omega (arith, length-drop n (codeIn b), code-length), omega (arith, tail-seen n i l, apart (getD c i 0) 0 k))
+
+  none-after : (n : ℕ) → T (allZero (drop n (codeIn b))) → ¬ (OneAfter b n)
+  none-after n h (a, l, m, e) =
+      let c = drop n (codeIn b) in
+      let i = a - (0x20 + n) in
+      let k : i < length c = omega (arith, length-drop n (codeIn b), code-length) in
+      let q : 0x20 + (n + i) ≡ a = omega arith in
+      let z = eqb→eq (getD c i 0) 0 (all-at (λ x. eqb x 0) c i h k) in
+      omega (arith, rw q at (tail-seen n i k))
+
+  -- Rule 13: the header; it is the scheme's own.
+  header-seen : 0 < wordCount b → at b 0x20 8 ≡ value 2 (take 8 (codeIn b))
+  header-seen z = code-seen 0 8 (omega arith)
+
+headed-is : (x h : ℕ) → x ≡ h → (ss : List Scheme) → Gives (λ s. x ≡ about s .header) (headed h ss)
+headed-is x h e [] = tt
+headed-is x h e (s ∷ ss) = go (eqb h (about s .header)) (eqb→eq h (about s .header)) (headed h ss) (headed-is x h e ss)
+  where
+    go : (t : Bool) → (T t → h ≡ about s .header) → (o : Option Scheme) → Gives (λ s. x ≡ about s .header) o → Gives (λ s. x ≡ about s .header) (cond t (some s) o)
+    go true f o i = e ∙ f tt
+    go false f o i = i
+
+abbrev Headed : List ℕ → Type 0
+Headed b = (s : Scheme) × (at b 0x20 8 ≡ about s .header)
+
+header-decided : (b : List ℕ) (h : ℕ) → at b 0x20 8 ≡ h → Decides (¬ (Headed b)) (λ s. at b 0x20 8 ≡ about s .header) (headed h schemes)
+header-decided b h e =
+    decided (Headed b) (λ s. at b 0x20 8 ≡ about s .header) (headed h schemes) (headed-is (at b 0x20 8) h e schemes) (λ s r. (s, r)) λ r.
+    (r .0, rw (sym e ∙ r .1) (headed-of (r .0)))
+
+of-bank : (b : List ℕ) (s : Scheme) → at b 0x20 8 ≡ about s .header → (Q : Scheme → Type 0) → Q s ↔ OfBank b Q
+of-bank b s e Q = (λ q. (s, e, q), back)
+  where
+    back : OfBank b Q → Q s
+    back r =
+        let q : r .0 ≡ s = cc (headed-of (r .0), headed-of s, ap (λ h. headed h schemes) (sym (r .1) ∙ e)) in
+        rw q at (r .2)
+
+-- the rules of the code, once its scheme is known
+abbrev schemeRules : List ℕ → List Rule
+schemeRules b =
+    rule 16 (OfBank b λ s. NoRow b (about s .parts)) ∷
+    rule 17 (OfBank b λ s. LargePrefix b (about s .parts)) ∷
+    rule 18 (OfBank b λ s. LargeReference b (about s .parts)) ∷
+    rule 19 (OfBank b λ s. WrongLast b (about s .bits) (about s .parts)) ∷ []
+
+-- a last part ends where the parts do
+last-alike : (b : List ℕ) (m n : ℕ) (p : Parts) → m - zeroBits p ≡ n → WrongLast b n p ↔ WrongLast b m p
+last-alike b m n (F (t then f)) e = let q : n ≡ m = omega arith in rw q Iff·rfl
+last-alike b m n (F (t zeros z)) e = Iff·rfl
+last-alike b m n (F E) e = Iff·rfl
+last-alike b m n (integers x y z) e = Iff·rfl
+
+module _ (b : List ℕ) (s : Scheme) (long : bankSize (wordCount b) ≤ length b) (count : wordCount b ≡ words s) (e : at b 0x20 8 ≡ about s .header) where
+  abbrev PartsShown : List (List ℕ) → Type 0
+  PartsShown ps = (z : List ℕ) × Fits (layout s) ps × (drop 8 (codeIn b) ≡ coded (layout s) ps ++ z)
+
+  scheme-reads : Reads (schemeRules b) PartsShown (fieldsIn (layout s) (drop 8 (codeIn b)))
+  scheme-reads =
+      let n = content s in
+      let of = of-bank b s e in
+      let room : 8 + n ≤ 16 * wordCount b = omega (arith, sizes s .inside, sizes s .whole) in
+      let r = parts-read b (drop 8 (codeIn b)) n (digits-drop 2 8 (codeIn b) (code-bits b long)) (rw length-drop (omega (arith, code-length b long))) (λ p w h. seen p w (omega arith)) (about s .parts) (sizes s .parts) in
+      reads-covers PartsShown (fieldsIn (layout s) (drop 8 (codeIn b)))
+      (same refl (of λ s. NoRow b (about s .parts))
+      (same refl (of λ s. LargePrefix b (about s .parts))
+      (same refl (of λ s. LargeReference b (about s .parts))
+      (same refl (Iff·trans (last-alike b (about s .bits) (8 + n) (about s .parts) (sizes s .whole)) (of λ s. WrongLast b (about s .bits) (about s .parts))) done))))
+      (r .reads)
+    where
+      seen : (p w : ℕ) → 8 + p + w ≤ 16 * wordCount b → at b (0x28 + p) w ≡ value 2 (take w (drop p (drop 8 (codeIn b))))
+      seen p w h =
+          let q : 0x28 + p ≡ 0x20 + (8 + p) = omega arith in
+          rw (q, code-seen b long (8 + p) w h, drop-drop p 8 (codeIn b))
+
+-- Rules 14 to 19, once the header is a scheme's.
+abbrev headerRules : List ℕ → List Rule
+headerRules b =
+    rule 14 (OfBank b λ s. ¬ (wordCount b ≡ words s)) ∷
+    rule 15 (OfBank b λ s. OneAfter b (about s .bits - zeroBits (about s .parts))) ∷ schemeRules b
+
+header-reads : (b : List ℕ) (s : Scheme) → bankSize (wordCount b) ≤ length b → take 16 (spread 2 8 b) ≡ binary 5 (wordCount b) ++ replicate 11 0 → at b 0x20 8 ≡ about s .header
+    → Reads (headerRules b) (Shown b) (demand (eqb (wordCount b) (words s)) 14 >> (demand (allZero (drop (about s .bits - zeroBits (about s .parts)) (codeIn b))) 15 >> (fieldsIn (layout s) (drop 8 (codeIn b)) >>= λ ps. taken (record { scheme = s; parts = ps }))))
+header-reads b s long control e =
+    let W = wordCount b in
+    let c = codeIn b in
+    let m = about s .bits - zeroBits (about s .parts) in
+    check _ (Shown b) 14 _ (T (eqb W (words s))) (demand (eqb W (words s)) 14) _ (lit< tt)
+    (settled-as 14 (¬ (W ≡ words s)) _ _ (demand (eqb W (words s)) 14) (of-bank b s e λ s. ¬ (W ≡ words s)) (settled-demand 14 (¬ (W ≡ words s)) (eqb W (words s)) (apart W (words s)) (λ h f. f (eqb→eq W (words s) h)))) λ h.
+    let count = eqb→eq W (words s) h in
+    check _ (Shown b) 15 _ (T (allZero (drop m c))) (demand (allZero (drop m c)) 15) _ (lit< tt)
+    (settled-as 15 (OneAfter b m) _ _ (demand (allZero (drop m c)) 15) (of-bank b s e λ s. OneAfter b (about s .bits - zeroBits (about s .parts))) (settled-demand 15 (OneAfter b m) (allZero (drop m c)) (one-after b long m) (none-after b long m))) λ z.
+    reads-map (schemeRules b) (PartsShown b s long count e) (Shown b) (λ ps. record { scheme = s; parts = ps }) (fieldsIn (layout s) (drop 8 c)) (scheme-reads b s long count e) λ ps i.
+    record {
+      fits = i .1;
+      count = count;
+      long = long;
+      control = rw (← count) control;
+      code = code-is s ps c (i .0) (code-bits b long) (code-length b long ∙ ap (16 *_) count) (sym (header-seen b long (omega (arith, sizes s .some-words))) ∙ e) (i .1) (i .2) z;
+    }
+
+pub bank-reads : (b : List ℕ) → Reads (bankRules b) (Shown b) (tagOfBank b)
+unfolding bankRules rawRules tagOfBank
+bank-reads b =
+    let W = wordCount b in
+    let R = Shown b in
+    let c = codeIn b in
+    check _ R 9 (Short b) (T (enough b)) (demand (enough b) 9) _ (lit< tt) (settled-9 b) λ h.
+    let (two, long) = enough-is b h in
+    check _ R 10 (W ≡ 0) (T (ltb 0 W)) (demand (ltb 0 W) 10) _ (lit< tt) (settled-10 W) λ w.
+    let t = at b 0x17 1 in
+    check _ R 11 (t ≡ 1) (T (eqb t 0)) (demand (eqb t 0) 11) _ (lit< tt) (settled-11 t (at-lt b 0x17 1)) λ toggle.
+    let u = at b 0x15 2 in
+    let v = at b 0x18 8 in
+    check _ R 12 _ (T (eqb u 0 && eqb v 0)) (demand (eqb u 0 && eqb v 0) 12) _ (lit< tt) (settled-12 (at b 0x15 1) (at b 0x16 1) u v (control-bits b two)) λ z.
+    let (x, y) = both (eqb u 0) (eqb v 0) z in
+    let e = header-seen b long (ltb→lt 0 W w) in
+    step (headerRules b) R 13 (¬ (Headed b)) _ (given (headed (value 2 (take 8 c)) schemes) 13) _ (lit< tt)
+    (settled-given 13 (¬ (Headed b)) _ (headed (value 2 (take 8 c)) schemes) (header-decided b (value 2 (take 8 c)) e)) λ s i.
+    header-reads b s long (control-is b W two refl (eqb→eq t 0 toggle) (eqb→eq u 0 x) (eqb→eq v 0 y)) i
+
+-- The raw line is refused by 9 and 10 alone.
+pub raw-reads : (b : List ℕ) → Reads (rawRules b) (λ w. (w ≡ rawText b) × (2 ≤ length b) × (bankSize (wordCount b) ≤ length b)) (rawOfBank b)
+unfolding rawRules rawOfBank
+raw-reads b =
+    let W = wordCount b in
+    check _ _ 9 (Short b) (T (enough b)) (demand (enough b) 9) _ (lit< tt) (settled-9 b) λ h.
+    let (two, long) = enough-is b h in
+    check _ _ 10 (W ≡ 0) (T (ltb 0 W)) (demand (ltb 0 W) 10) _ (lit< tt) (settled-10 W) λ w. (tt, (refl, two, long))

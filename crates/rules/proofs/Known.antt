@@ -1,0 +1,112 @@
+-- The known tags, run through the public calls: document 01's rows 1 to 14 with tagline's example, and an example of 001's annex for each scheme.
+use Prim.Native.Nat.{ℕ}
+use Prim.Native.String.{String}
+use mathlib.Core.Path.{_≡_, refl}
+use mathlib.Core.List.{List, [], _∷_, map}
+use lib.ListN.{replicate}
+use Rattle.numeral.specs.Numeral.{value, numeral, spread, gather, sizeIn, size, shortest}
+use Rattle.rules.specs.Answers.{refused, taken}
+use Rattle.rules.specs.Bytes.{bytes}
+use Rattle.rules.specs.Schemes.{schemes, rows}
+use Rattle.rules.specs.Characters.{tableA1, escaped}
+use Rattle.rules.specs.Grammar.{textOf, start}
+use Rattle.rules.specs.Coding.{bankOf}
+use Rattle.rules.specs.TextNumbers.{tagOfText}
+use Rattle.rules.specs.BankNumbers.{tagOfBank}
+use Rattle.rules.specs.Raw.{rawText, rawOfBank}
+use Rattle.rules.specs.Calls.{Call, call, textToBank, bankToText, rawLine, bankRoom, textRoom}
+
+-- what is known of a text and a bank: each gives the other, or one of them gives a number; the raw line of a bank
+pub data Known : Type 0 where
+  each : String → List ℕ → Known
+  text : String → ℕ → Known
+  bank : List ℕ → ℕ → Known
+  raw : List ℕ → String → Known
+
+-- a bank of W words, first the control word, as one number
+unfoldable pub words6 : ℕ → List ℕ
+words6 = numeral 256 14
+
+unfoldable pub words11 : ℕ → List ℕ
+words11 = numeral 256 24
+
+unfoldable pub words13 : ℕ → List ℕ
+words13 = numeral 256 28
+
+-- an output of the room that a call asks for
+unfoldable pub blank : ℕ → List ℕ
+blank n = replicate n 7
+
+-- what the calls give, and what they should
+unfoldable pub gives : Known → List Call
+gives (each t b) = textToBank (bytes t) (blank bankRoom) ∷ bankToText b (blank textRoom) ∷ []
+gives (text t n) = textToBank (bytes t) (blank bankRoom) ∷ []
+gives (bank b n) = bankToText b (blank textRoom) ∷ []
+gives (raw b t) = rawLine b (blank textRoom) ∷ []
+
+unfoldable pub expected : Known → List Call
+expected (each t b) = call (blank bankRoom) (taken b) ∷ call (blank textRoom) (taken (bytes t)) ∷ []
+expected (text t n) = call (blank bankRoom) (refused n) ∷ []
+expected (bank b n) = call (blank textRoom) (refused n) ∷ []
+expected (raw b t) = call (blank textRoom) (taken (bytes t)) ∷ []
+
+unfoldable pub rows1to14 : List Known
+rows1to14 =
+    -- 1
+    each "urn:epc:tag:sgtin-96:3.0614141.812345.6789" (words6 0x3000_3074257BF7194E4000001A85) ∷
+    -- 2
+    each "urn:epc:tag:grai-96:3.0614141.12345.5678" (words6 0x3000_3374257BF40C0E400000162E) ∷
+    -- 3
+    each "urn:epc:tag:grai-96:0.000000000001..5" (words6 0x3000_330000000000040000000005) ∷
+    -- 4
+    bank (words6 0x3000_330000000000044000000005) 18 ∷
+    -- 5
+    each "urn:epc:tag:sscc-96:3.0614141.1234567890" (words6 0x3000_3174257BF4499602D2000000) ∷
+    bank (words6 0x3000_3174257BF4499602D2000001) 15 ∷
+    -- 6
+    each "urn:epc:tag:sgtin-198:0.0614141.812345.a.b" (words13 0x6800_3614257BF7194E70AEC400000000000000000000000000000000) ∷
+    -- 7
+    each "urn:epc:tag:sgtin-96:3.0614141.812345.274877906943" (words6 0x3000_3074257BF7194E7FFFFFFFFF) ∷
+    text "urn:epc:tag:sgtin-96:3.0614141.812345.274877906944" 8 ∷
+    -- 8
+    text "urn:epc:tag:sgtin-96:3.0614141.812345.007" 7 ∷
+    -- 9
+    each "urn:epc:tag:sgtin-198:0.0614141.812345.a%2Fb" (words13 0x6800_3614257BF7194E70AFC400000000000000000000000000000000) ∷
+    text "urn:epc:tag:sgtin-198:0.0614141.812345.a%2fb" 7 ∷
+    text "urn:epc:tag:sgtin-198:0.0614141.812345.%41" 7 ∷
+    -- 10
+    text "urn:epc:tag:sgtin-96:8.0614141.812345.6789" 4 ∷
+    -- 11
+    bank (words6 0x3000_307C257BF7194E4000001A85) 16 ∷
+    -- 12
+    bank (words6 0x3000_3003FFFFFFFFFC0000000000) 17 ∷
+    -- 13
+    bank (words6 0x3001_3074257BF7194E4000001A85) 12 ∷
+    bank (words6 0x3100_3074257BF7194E4000001A85) 11 ∷
+    bank (words6 0x0000_3074257BF7194E4000001A85) 10 ∷
+    -- 14
+    bank (words13 0x3000_3614257BF7194E70AEC400000000000000000000000000000000) 14 ∷
+    -- tagline's lines that rows 2 and 4 don't have
+    raw (words6 0x3000_330000000000044000000005) "urn:epc:raw:96.x330000000000044000000005" ∷
+    bank [] 9 ∷ []
+
+-- 001, annex E.3, lines 11955 to 12200, as corrected in docs
+unfoldable pub annex : List Known
+annex =
+    each "urn:epc:tag:sgtin-96:3.95060001343.05.123456789" (words6 0x3000_3066C4409047E140075BCD15) ∷
+    each "urn:epc:tag:sgtin-198:3.95060001343.05.32a%2Fb" (words13 0x6800_3666C4409047E159B2C2BF100000000000000000000000000000) ∷
+    each "urn:epc:tag:sscc-96:0.952012.03456789123" (words6 0x3000_311BA1B300CE0A6A83000000) ∷
+    each "urn:epc:tag:sgln-96:3.9521141.12345.5678" (words6 0x3000_3276451FD46072000000162E) ∷
+    each "urn:epc:tag:sgln-195:3.9521141.12345.32a%2Fb" (words13 0x6800_3976451FD46072CD9615F8800000000000000000000000000000) ∷
+    each "urn:epc:tag:grai-96:3.9521141.12345.5678" (words6 0x3000_3376451FD40C0E400000162E) ∷
+    each "urn:epc:tag:grai-170:3.9521141.12345.32a%2Fb" (words11 0x5800_3776451FD40C0E59B2C2BF1000000000000000000000) ∷
+    each "urn:epc:tag:giai-96:3.9521141.5678" (words6 0x3000_3476451FD40000000000162E) ∷
+    each "urn:epc:tag:gsrn-96:3.9521141.1234567890" (words6 0x3000_2D76451FD4499602D2000000) ∷
+    each "urn:epc:tag:gsrnp-96:3.9521141.1234567890" (words6 0x3000_2E76451FD4499602D2000000) ∷
+    each "urn:epc:tag:gdti-96:3.9521141.12345.5678" (words6 0x3000_2C76451FD46072000000162E) ∷
+    each "urn:epc:tag:gdti-174:3.9521141.98765.ABCDefgh012345678" (words11 0x5800_3E76451FD7039B061438997367D0C18B266D1AB66EE0) ∷
+    each "urn:epc:tag:gid-96:952056.2718.1414" (words6 0x3000_3500E86F8000A9E000000586) ∷ []
+
+pub known-tags : (map gives rows1to14 ≡ map expected rows1to14) × (map gives annex ≡ map expected annex)
+unfolding rows1to14 annex gives expected words6 words11 words13 blank textToBank bankToText rawLine tagOfText tagOfBank rawOfBank rawText bankOf textOf gather value numeral spread sizeIn size shortest schemes rows tableA1 escaped start
+known-tags = (refl, refl)

@@ -1,0 +1,183 @@
+-- How long texts, banks and raw lines are: at most 99, 64 and 145, and the first and the last of these are reached.
+use Prim.Native.Nat.{ℕ, suc, _+_, _-_, _*_, _/_, _^_, _≤_, _<_}
+use mathlib.Core.Path.{_≡_, refl, ap}
+use mathlib.Core.List.{List, [], _∷_, _++_}
+use mathlib.Core.Bool.{Bool, true, false, cond}
+use native.Mathlib.Omega.{arith}
+use native.Mathlib.Nat.{le-trans}
+use lib.Dec.{T, leb, ltb, eqb, leb→le, ltb→lt, eqb→eq, lit<, lit≤}
+use lib.ListN.{length, replicate, length-append, length-map, length-take, length-drop}
+use Rattle.numeral.specs.Numeral.{value, numeral, spread, sizeIn, size, shortest}
+use Rattle.numeral.proofs.Shortest.{length-shortest, size-le}
+use Rattle.rules.specs.Bytes.{bytes, hexText}
+use Rattle.rules.specs.Schemes.{Form, prefix, digits, integer, string, Row, rows, rowOf, cell, referenceE, prefixDigits, partition, Body, _then_, _zeros_, E, Parts, F, integers, Scheme, schemes, about, sgtin-96, sgtin-198, sscc-96, sgln-96, sgln-195, grai-96, grai-170, giai-96, gsrn-96, gsrnp-96, gdti-96, gdti-174, gid-96}
+use Rattle.rules.specs.Characters.{tableA1, escaped, plain, spelling, stringText}
+use Rattle.rules.specs.Grammar.{Layout, part, last, laid, bodyLayout, Fit, Fits, more, one, spelled, written, Tag, TagText, textOf, start, label}
+use Rattle.rules.specs.Coding.{at, wordCount, bankOf}
+use Rattle.rules.specs.TextNumbers.{tagOfText, textNumber}
+use Rattle.rules.specs.Raw.{afi, rawText}
+use Rattle.rules.proofs.Tests.{every, each}
+use Rattle.rules.proofs.Decimals.{all-digits}
+use Rattle.rules.proofs.Numbers.{whole-of}
+use Rattle.rules.proofs.Rows.{AllRows, by-row}
+use Rattle.rules.proofs.Codes.{sizes, has-row}
+use Rattle.rules.proofs.Banks.{bank-length}
+use Rattle.rules.proofs.BankReads.{at-lt}
+
+-- A part's characters.
+abbrev longest : Form → List ℕ → ℕ
+longest prefix ds = prefixDigits (rowOf (length ds))
+longest (digits b n) ds = n
+longest (integer b) ds = b / 3
+longest (string b) cs = 3 * (b / 7)
+
+-- b / 3 digits are enough for b bits
+abbrev Enough : Form → Type 0
+Enough prefix = Unit
+Enough (digits b n) = Unit
+Enough (integer b) = (0 < b / 3) × (2 ^ b ≤ 10 ^ (b / 3))
+Enough (string b) = Unit
+
+string-length : (cs : List ℕ) → length (stringText cs) ≤ 3 * length cs
+string-length [] = omega arith
+string-length (c ∷ cs) = go (plain c) (string-length cs)
+  where
+    go : (b : Bool) → length (stringText cs) ≤ 3 * length cs → length (spelling b c ++ stringText cs) ≤ 3 * suc (length cs)
+    go true h = omega arith
+    go false h = omega arith
+
+part-length : (f : Form) (p : List ℕ) → Enough f → Fit f p → length (spelled f p) ≤ longest f p
+part-length prefix ds e h = rw length-map (omega (arith, has-row ds h .1))
+part-length (digits b n) ds e h = rw length-map (omega (arith, eqb→eq (length ds) n (h .shape)))
+part-length (integer b) ds e h =
+    let v = value 10 ds in
+    let l : v < 10 ^ (b / 3) = le-trans (ltb→lt v (2 ^ b) (h .size)) (e .1) in
+    let n = ap length (whole-of ds (all-digits ds (h .symbols)) (h .shape)) in
+    rw length-map (omega (arith, n, length-shortest 10 (lit< tt) v, size-le 10 (lit< tt) v (b / 3) (e .0) l))
+part-length (string b) cs e h = omega (arith, string-length cs, leb→le (length cs) (b / 7) (h .size))
+
+-- What fits a layout has a text of at most m characters.
+abbrev Within : Layout → ℕ → Type 0
+Within (part n f k) m = Enough f × ((p : List ℕ) → Fit f p → (longest f p < m) × Within (k p) (m - suc (longest f p)))
+Within (last n f) m = Enough f × ((p : List ℕ) → Fit f p → longest f p ≤ m)
+
+written-length : {l : Layout} {ps : List (List ℕ)} → Fits l ps → (m : ℕ) → Within l m → length (written l ps) ≤ m
+written-length (one {f = f} {p = p} h) m w = omega (arith, part-length f p (w .0) h, w .1 p h)
+written-length (more {f = f} {k = k} {p = p} {ps = ps} h i) m w =
+    let (a, r) = w .1 p h in
+    rw (length-append (spelled f p)) (omega (arith, part-length f p (w .0) h, a, written-length i (m - suc (longest f p)) r))
+
+-- b / 3 digits are enough for b bits, and are at most m
+abbrev integerTests : ℕ → ℕ → List Bool
+integerTests b m = ltb 0 (b / 3) ∷ leb (2 ^ b) (10 ^ (b / 3)) ∷ leb (b / 3) m ∷ []
+
+integer-within : (b m : ℕ) → T (every (integerTests b m)) → Enough (integer b) × (b / 3 ≤ m)
+integer-within b m h =
+    let (x, (y, (z, _))) = each (integerTests b m) h in
+    ((ltb→lt 0 (b / 3) x, leb→le (2 ^ b) (10 ^ (b / 3)) y), leb→le (b / 3) m z)
+
+-- as it is seen row by row: behind the filter, the company prefix, the reference and what follows
+abbrev EndWithin : Form → ℕ → Type 0
+EndWithin prefix m = ⊥
+EndWithin (digits b n) m = n ≤ m
+EndWithin (integer b) m = T (every (integerTests b m))
+EndWithin (string b) m = 3 * (b / 7) ≤ m
+
+abbrev BodyWithin : Body → ℕ → Row → Type 0
+BodyWithin (t then f) m r = (cell t r .1 < m) × EndWithin f (m - suc (cell t r .1))
+BodyWithin (t zeros z) m r = cell t r .1 ≤ m
+BodyWithin E m r = EndWithin (referenceE r) m
+
+abbrev PartsWithin : Parts → ℕ → Type 0
+PartsWithin (F body) m = (2 ≤ m) × AllRows (λ P r. (prefixDigits r < m - 2) × BodyWithin body (m - 2 - suc (prefixDigits r)) r) 0 rows
+PartsWithin (integers a b c) m =
+    EndWithin (integer a) m × EndWithin (integer b) (m - suc (a / 3)) × EndWithin (integer c) (m - suc (a / 3) - suc (b / 3)) × (a / 3 + b / 3 + 2 ≤ m)
+
+end-within : (n : ℕ) (f : Form) (m : ℕ) → EndWithin f m → Within (last n f) m
+end-within n prefix m h = absurd h
+end-within n (digits b k) m h = (tt, λ p q. h)
+end-within n (integer b) m h = let (e, l) = integer-within b m h in (e, λ p q. l)
+end-within n (string b) m h = (tt, λ p q. h)
+
+body-within : (body : Body) (n m : ℕ) → BodyWithin body m (rowOf n) → Within (bodyLayout body n) m
+body-within (t then f) n m h = (tt, λ p q. (h .0, end-within 7 f (m - suc (cell t (rowOf n) .1)) (h .1)))
+body-within (t zeros z) n m h = (tt, λ p q. h)
+body-within E n m h = end-within 7 (referenceE (rowOf n)) m h
+
+parts-within : (p : Parts) (m : ℕ) → PartsWithin p m → Within (laid p) m
+parts-within (F body) m h = (
+  (lit< tt, lit≤ tt),
+  λ p q. (omega arith, (tt, λ ds q. let (a, r) = row ds q in (a, body-within body (length ds) _ r))),
+)
+  where
+    row : (ds : List ℕ) → Fit prefix ds → (prefixDigits (rowOf (length ds)) < m - 2) × BodyWithin body (m - 2 - suc (prefixDigits (rowOf (length ds)))) (rowOf (length ds))
+    row ds q = by-row (λ P r. (prefixDigits r < m - 2) × BodyWithin body (m - 2 - suc (prefixDigits r)) r) (h .1) (partition (length ds)) (has-row ds q .0)
+parts-within (integers a b c) m h =
+    (integer-within a m (h .0) .0, λ p q. (omega arith, (integer-within b (m - suc (a / 3)) (h .1) .0, λ p q. (omega arith, end-within 7 (integer c) (m - suc (a / 3) - suc (b / 3)) (h .2)))))
+
+-- what is left of 99 characters behind the start, the name and the colon
+abbrev left : Scheme → ℕ
+left s = 99 - (12 + length (label s))
+
+fits-99 : (s : Scheme) → (12 + length (label s) ≤ 99) × PartsWithin (about s .parts) (left s)
+unfolding rows
+fits-99 sgtin-96 = omega arith
+fits-99 sgtin-198 = omega arith
+fits-99 sscc-96 = omega arith
+fits-99 sgln-96 = omega arith
+fits-99 sgln-195 = omega arith
+fits-99 grai-96 = omega arith
+fits-99 grai-170 = omega arith
+fits-99 giai-96 = omega arith
+fits-99 gsrn-96 = omega arith
+fits-99 gsrnp-96 = omega arith
+fits-99 gdti-96 = omega arith
+fits-99 gdti-174 = omega arith
+fits-99 gid-96 = omega arith
+
+pub text-length : (t : List ℕ) (τ : Tag) → TagText t τ → length t ≤ 99
+unfolding textOf start
+text-length t τ r =
+    let s = τ .scheme in
+    let w = written-length (r .fits) (left s) (parts-within (about s .parts) (left s) (fits-99 s .1)) in
+    rw (r .text, length-append (label s)) (omega (arith, w, fits-99 s .0))
+
+pub bank-size : (τ : Tag) → length (bankOf τ) ≤ 64
+bank-size τ = omega (arith, bank-length τ, sizes (τ .scheme) .few-words)
+
+-- The raw line.
+hex-length : (l : List ℕ) → length (hexText l) ≡ 2 * length l
+hex-length [] = refl
+hex-length (x ∷ xs) = omega (arith, hex-length xs)
+
+afi-length : (b : List ℕ) → length (afi b) ≤ 4
+afi-length b = go (eqb (at b 0x17 1) 1)
+  where
+    go : (t : Bool) → length (cond t (bytes ".x" ++ hexText (at b 0x18 8 ∷ [])) []) ≤ 4
+    go true = lit≤ tt
+    go false = lit≤ tt
+
+pub raw-length : (b : List ℕ) → length (rawText b) ≤ 145
+unfolding rawText
+raw-length b =
+    let W = wordCount b in
+    let d = size-le 10 (lit< tt) (16 * W) 3 (lit< tt) (omega (arith, at-lt b 0x10 5)) in
+    simp (length-append, length-map, length-shortest 10 (lit< tt), hex-length, length-drop, length-take) (omega (arith, at-lt b 0x10 5, d, afi-length b))
+
+pub sizes-hold : (t b : List ℕ) (τ : Tag) → TagText t τ → (length t ≤ 99) × (length (bankOf τ) ≤ 64) × (length (rawText b) ≤ 145)
+sizes-hold t b τ r = (text-length t τ r, bank-size τ, raw-length b)
+
+-- a text of 99 characters that is taken, and a raw line of 145
+abbrev pub longest-text : List ℕ
+longest-text = bytes "urn:epc:tag:sgtin-198:0.123456.1234567.%22%25%26%2F%3C%3E%3F%22%25%26%2F%3C%3E%3F%22%25%26%2F%3C%3E"
+
+pub text-reached : (textNumber longest-text ≡ 0) × (length longest-text ≡ 99)
+unfolding textNumber tagOfText value start schemes rows tableA1 escaped
+text-reached = (refl, refl)
+
+abbrev pub longest-raw : List ℕ
+longest-raw = 0xF9 ∷ replicate 63 0
+
+pub raw-reached : length (rawText longest-raw) ≡ 145
+unfolding rawText value numeral spread sizeIn size shortest
+raw-reached = refl

@@ -1,0 +1,27 @@
+-- What is proved of the written rules.
+pub mod Tests
+pub mod Answers
+pub mod Runs
+pub mod Decimals
+pub mod Spellings
+pub mod Forms
+pub mod Reading
+pub mod TextReads
+pub mod Rows
+pub mod Numbers
+pub mod Groups
+pub mod Fields
+pub mod FieldReads
+pub mod Codes
+pub mod CodeReads
+pub mod Banks
+pub mod BankReads
+pub mod FirstRule
+pub mod Exact
+pub mod Lengths
+pub mod OneAnswer
+pub mod Again
+pub mod Numbered
+pub mod ScreenShows
+pub mod Tables
+pub mod Known

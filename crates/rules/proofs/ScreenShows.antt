@@ -1,0 +1,78 @@
+-- What the screen shows for each number, and that a refusal's line never looks like a tag URI.
+use Prim.Native.Nat.{ℕ, zero, suc, _≤_}
+use mathlib.Core.Path.{_≡_, refl, _∙_, ap}
+use mathlib.Core.Logic.{_⊎_, inl, inr, ⊎-elim}
+use mathlib.Core.List.{List, [], _∷_, _++_, map}
+use mathlib.Core.Bool.{Bool, true, false, _&&_, cond}
+use native.Mathlib.Omega.{arith}
+use lib.Dec.{leb, eqb, eqb→eq, not-T}
+use lib.ListN.{length, getD, replicate}
+use Rattle.numeral.specs.Numeral.{Digits}
+use Rattle.rules.specs.Answers.{refused}
+use Rattle.rules.specs.Grammar.{start}
+use Rattle.rules.specs.Coding.{within}
+use Rattle.rules.specs.Raw.{rawText}
+use Rattle.rules.specs.Screen.{screen}
+use Rattle.rules.specs.Calls.{Call, line, bankRoom, textToBank, bankToText, rawLine}
+use Rattle.rules.proofs.Tests.{is-false}
+use Rattle.rules.proofs.Numbered.{from}
+use Rattle.rules.proofs.Again.{line-is, again}
+use Rattle.rules.proofs.OneAnswer.{raw-line}
+
+-- for every number 0 to 255: 0, then 1 to 10, then 11 to 19, then 20 to 255
+pub screen-shows : (tag raw : List ℕ) → map (screen tag raw) (from 0 256) ≡ tag ∷ replicate 10 [] ++ replicate 9 raw ++ replicate 236 []
+unfolding screen
+screen-shows tag raw = refl
+
+abbrev pub LooksLikeATag : List ℕ → Type 0
+LooksLikeATag l = (u : List ℕ) × (l ≡ start ++ u)
+
+raw-differs : (b : List ℕ) → ¬ (LooksLikeATag (rawText b))
+unfolding rawText start
+raw-differs b r = let e : _≡_ {A = ℕ} 114 116 = ap (λ l. getD l 8 0) (r .1) in omega arith
+
+empty-differs : ¬ (LooksLikeATag [])
+unfolding start
+empty-differs r = let e : _≡_ {A = ℕ} 0 117 = ap (λ l. getD l 0 0) (r .1) in omega arith
+
+-- what the raw line's call wrote: the raw line, or nothing
+raw-wrote : (b out : List ℕ) → (line (rawLine b out) ≡ rawText b) ⊎ (line (rawLine b out) ≡ [])
+raw-wrote b out = go (c .number) refl
+  where
+    c : Call
+    c = rawLine b out
+
+    go : (n : ℕ) → rawLine b out .number ≡ n → (line (rawLine b out) ≡ rawText b) ⊎ (line (rawLine b out) ≡ [])
+    go zero e =
+        let (w, r, n, o) = raw-line b out (rawLine b out) .1 refl .accepted e in
+        inl (line-is out w (rawLine b out) n o ∙ r)
+    go (suc n) e =
+        let (w, o) = raw-line b out (rawLine b out) .1 refl .refused (λ z. omega arith) in
+        inr (rw w)
+
+raw-wrote-differs : (b out : List ℕ) → ¬ (LooksLikeATag (line (rawLine b out)))
+raw-wrote-differs b out r = ⊎-elim (λ e. raw-differs b (rw e at r)) (λ e. empty-differs (rw e at r)) (raw-wrote b out)
+
+-- a refusal, whatever its number, shows nothing that begins `urn:epc:tag:`
+pub refusal-shows-no-tag : (tag b out : List ℕ) (n : ℕ) → ¬ (n ≡ 0) → ¬ (LooksLikeATag (screen tag (line (rawLine b out)) n))
+unfolding screen
+refusal-shows-no-tag tag b out n z =
+    rw (is-false (eqb n 0) (not-T (eqb n 0) λ e. z (eqb→eq n 0 e))) (go (leb 11 n && leb n 19))
+  where
+    go : (t : Bool) → ¬ (LooksLikeATag (cond t (line (rawLine b out)) []))
+    go true = raw-wrote-differs b out
+    go false = empty-differs
+
+-- the line on the screen for a bank
+abbrev pub onScreen : List ℕ → List ℕ → List ℕ → List ℕ
+onScreen b out out′ = screen (line (bankToText b out)) (line (rawLine b out′)) (bankToText b out .number)
+
+-- a tag URI is shown only if writing it again gives the same bank
+pub screen-rule : (b out out′ out″ : List ℕ) → Digits 256 b → bankRoom ≤ length out″ → LooksLikeATag (onScreen b out out′)
+    → (textToBank (onScreen b out out′) out″ .number ≡ 0) × (line (textToBank (onScreen b out out′) out″) ≡ within b)
+screen-rule b out out′ out″ d l r = go (bankToText b out .number) refl
+  where
+    go : (n : ℕ) → bankToText b out .number ≡ n
+        → (textToBank (onScreen b out out′) out″ .number ≡ 0) × (line (textToBank (onScreen b out out′) out″) ≡ within b)
+    go zero e = unfold screen in rw e (again b out out″ d l e)
+    go (suc n) e = absurd (refusal-shows-no-tag (line (bankToText b out)) b out′ (bankToText b out .number) (λ z. omega arith) r)

@@ -1,0 +1,91 @@
+-- Bank to text: the number of a bank (document 01, "Numbers given, and when": 9 to 19).
+use Prim.Native.Nat.{ℕ, _-_, _*_, _/_, _^_}
+use mathlib.Core.List.{List, [], _∷_}
+use mathlib.Core.Option.{Option, none, some, Option·map}
+use mathlib.Core.Bool.{Bool, _&&_, not, cond}
+use lib.Dec.{leb, ltb, eqb}
+use lib.ListN.{length, take, drop}
+use Rattle.numeral.specs.Numeral.{value, numeral, spread, gather, shortest}
+use Rattle.rules.specs.Answers.{Answer, taken, _>>=_, _>>_, demand, given, numberOf}
+use Rattle.rules.specs.Bytes.{all}
+use Rattle.rules.specs.Schemes.{Form, prefix, digits, integer, string, Scheme, schemes, about, words, zeroBits, rowAt, prefixBits, prefixDigits}
+use Rattle.rules.specs.Characters.{character}
+use Rattle.rules.specs.Grammar.{Layout, part, last, layout, Tag}
+use Rattle.rules.specs.Coding.{at, wordCount, bankSize}
+
+-- a part, and the bits behind it
+pub record Field : Type 0 where
+  pub symbols : List ℕ
+  pub rest : List ℕ
+
+abbrev pub field : List ℕ → ℕ → List ℕ → Field
+field p b l = record { symbols = p; rest = drop b l }
+
+-- b bits as n digits: refused with m if the number has more
+abbrev pub decimal : ℕ → ℕ → ℕ → List ℕ → Answer Field
+decimal m b n l = do
+  let v = value 2 (take b l)
+  demand (ltb v (10 ^ n)) m
+  taken (field (numeral 10 n v) b l)
+
+abbrev pub allZero : List ℕ → Bool
+allZero = all λ x. eqb x 0
+
+-- the groups before the first zero, if only zeros follow
+abbrev pub leading : List ℕ → Option (List ℕ)
+leading [] = some []
+leading (g ∷ gs) = let r = Option·map (g ∷_) (leading gs) in cond (eqb g 0) (cond (allZero gs) (some []) none) r
+
+-- 19: the string's groups
+abbrev pub stringIn : List ℕ → Answer (List ℕ)
+stringIn gs = do
+  cs ← given (leading gs) 19
+  demand (ltb 0 (length cs) && all character cs) 19
+  taken cs
+
+-- 16: the partition value; 17: the company prefix; 18: the reference of A to D
+abbrev pub fieldIn : Form → List ℕ → Answer Field
+fieldIn prefix l = do
+  let P = value 2 (take 3 l)
+  demand (not (eqb P 7)) 16
+  decimal 17 (prefixBits (rowAt P)) (prefixDigits (rowAt P)) (drop 3 l)
+fieldIn (digits b n) l = decimal 18 b n l
+fieldIn (integer b) l = taken (field (shortest 10 (value 2 (take b l))) b l)
+fieldIn (string b) l = do
+  cs ← stringIn (gather 2 7 (b / 7) (take b l))
+  taken (field cs b l)
+
+-- bits are taken in order
+abbrev pub fieldsIn : Layout → List ℕ → Answer (List (List ℕ))
+fieldsIn (part n f k) l = do
+  c ← fieldIn f l
+  ps ← fieldsIn (k (c .symbols)) (c .rest)
+  taken (c .symbols ∷ ps)
+fieldsIn (last n f) l = do
+  c ← fieldIn f l
+  taken (c .symbols ∷ [])
+
+abbrev pub headed : ℕ → List Scheme → Option Scheme
+headed h [] = none
+headed h (s ∷ ss) = let r = headed h ss in cond (eqb h (about s .header)) (some s) r
+
+-- the code: W words from 20h on
+abbrev pub codeIn : List ℕ → List ℕ
+codeIn b = take (16 * wordCount b) (drop (0x20 - 0x10) (spread 2 8 b))
+
+unfoldable pub tagOfBank : List ℕ → Answer Tag
+tagOfBank b = do
+  let W = wordCount b
+  let code = codeIn b
+  demand (leb 2 (length b) && leb (bankSize W) (length b)) 9
+  demand (ltb 0 W) 10
+  demand (eqb (at b 0x17 1) 0) 11
+  demand (eqb (at b 0x15 2) 0 && eqb (at b 0x18 8) 0) 12
+  s ← given (headed (value 2 (take 8 code)) schemes) 13
+  demand (eqb W (words s)) 14
+  demand (allZero (drop (about s .bits - zeroBits (about s .parts)) code)) 15
+  ps ← fieldsIn (layout s) (drop 8 code)
+  taken (record { scheme = s; parts = ps })
+
+unfoldable pub bankNumber : List ℕ → ℕ
+bankNumber b = numberOf (tagOfBank b)

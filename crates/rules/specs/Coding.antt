@@ -1,0 +1,58 @@
+-- The bank of a tag (document 01, "The bank"): its bits, most significant first, eight to a byte.
+use Prim.Native.Nat.{ℕ, _+_, _-_, _*_}
+use mathlib.Core.Path.{_≡_}
+use mathlib.Core.List.{List, [], _∷_, _++_}
+use lib.ListN.{length, take, drop, replicate}
+use Rattle.numeral.specs.Numeral.{value, numeral, spread, gather}
+use Rattle.rules.specs.Schemes.{Form, prefix, digits, integer, string, Scheme, about, words, partition, rowOf, prefixBits}
+use Rattle.rules.specs.Grammar.{Layout, part, last, layout, Tag, Fits}
+
+abbrev pub binary : ℕ → ℕ → List ℕ
+binary n v = numeral 2 n v
+
+-- zeros up to n bits
+abbrev pub filled : ℕ → List ℕ → List ℕ
+filled n l = l ++ replicate (n - length l) 0
+
+abbrev pub partBits : Form → List ℕ → List ℕ
+partBits prefix ds = binary 3 (partition (length ds)) ++ binary (prefixBits (rowOf (length ds))) (value 10 ds)
+partBits (digits b n) ds = binary b (value 10 ds)
+partBits (integer b) ds = binary b (value 10 ds)
+partBits (string b) cs = filled b (spread 2 7 cs)
+
+abbrev pub coded : Layout → List (List ℕ) → List ℕ
+coded (part n f k) [] = []
+coded (part n f k) (p ∷ ps) = partBits f p ++ coded (k p) ps
+coded (last n f) [] = []
+coded (last n f) (p ∷ ps) = partBits f p
+
+-- the header, the parts, and zeros to the end of the last word; table B's 24 zero bits are of those
+abbrev pub codeOf : Scheme → List (List ℕ) → List ℕ
+codeOf s ps = filled (16 * words s) (binary 8 (about s .header) ++ coded (layout s) ps)
+
+-- the word count, the other eleven control bits, the code
+abbrev pub bitsOf : Scheme → List (List ℕ) → List ℕ
+bitsOf s ps = binary 5 (words s) ++ (replicate 11 0 ++ codeOf s ps)
+
+-- the bytes of a bank of W words
+abbrev pub bankSize : ℕ → ℕ
+bankSize W = 2 + 2 * W
+
+unfoldable pub bankOf : Tag → List ℕ
+bankOf τ = gather 2 8 (bankSize (words (τ .scheme))) (bitsOf (τ .scheme) (τ .parts))
+
+-- n bits of a bank from an address on; the lent bank starts at address 10h
+abbrev pub at : List ℕ → ℕ → ℕ → ℕ
+at b a n = value 2 (take n (drop (a - 0x10) (spread 2 8 b)))
+
+abbrev pub wordCount : List ℕ → ℕ
+wordCount b = at b 0x10 5
+
+-- a bank up to the last word that its word count names: what is behind it is never looked at
+abbrev pub within : List ℕ → List ℕ
+within b = take (bankSize (wordCount b)) b
+
+-- b is the bank of the tag τ, whose parts keep the limits
+pub record TagBank (b : List ℕ) (τ : Tag) : Type 0 where
+  pub fits : Fits (layout (τ .scheme)) (τ .parts)
+  pub bank : within b ≡ bankOf τ

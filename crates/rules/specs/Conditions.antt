@@ -1,0 +1,194 @@
+-- When each number applies, by itself and in document 01's words ("Numbers given, and when"), apart from the readers of TextNumbers and BankNumbers.
+use Prim.Native.Nat.{ℕ, _+_, _-_, _*_, _/_, _^_, _≤_, _<_}
+use mathlib.Core.Path.{_≡_}
+use mathlib.Core.Logic.{_⊎_}
+use mathlib.Core.List.{List, [], _∷_, _++_}
+use lib.Dec.{T}
+use lib.ListN.{length}
+use Rattle.numeral.specs.Numeral.{value, Digits}
+use Rattle.rules.specs.Bytes.{all, among, upto, behind, dot, digitsText}
+use Rattle.rules.specs.Schemes.{Form, prefix, digits, integer, string, Body, _then_, _zeros_, E, Parts, F, integers, Row, Cell, cell, reference, referenceE, prefixBits, prefixDigits, rowAt, rowOf, Scheme, about, words, zeroBits}
+use Rattle.rules.specs.Characters.{character, stringText}
+use Rattle.rules.specs.Grammar.{start, label}
+use Rattle.rules.specs.Coding.{at, wordCount}
+
+-- a number, and when it applies
+pub record Rule : Type 1 where
+  pub number : ℕ
+  pub applies : Type 0
+
+abbrev pub rule : ℕ → Type 0 → Rule
+rule n P = record { number = n; applies = P }
+
+-- n is the number of the first rule that applies, 0 where none does
+abbrev pub First : List Rule → ℕ → Type 0
+First [] n = n ≡ 0
+First (r ∷ rs) n = (r .applies × (n ≡ r .number)) ⊎ ((¬ (r .applies)) × First rs n)
+
+-- TEXT TO BANK
+
+-- x is the digits ds, written in decimal
+abbrev pub Decimal : List ℕ → List ℕ → Type 0
+Decimal x ds = Digits 10 ds × (x ≡ digitsText ds)
+
+-- `0`, or digits with no leading zero
+pub data Whole : List ℕ → Type 0 where
+  zero-alone : Whole (0 ∷ [])
+  leading : {d : ℕ} {ds : List ℕ} → 0 < d → Whole (d ∷ ds)
+
+-- x is the characters cs, each as itself or as its escape
+abbrev pub Spelled : List ℕ → List ℕ → Type 0
+Spelled x cs = T (all character cs) × (x ≡ stringText cs)
+
+-- the text x has the form f, whatever its size; empty is no integer and no string
+abbrev pub Formed : Form → List ℕ → Type 0
+Formed prefix x = (ds : List ℕ) × Decimal x ds × (6 ≤ length ds) × (length ds ≤ 12)
+Formed (digits b n) x = (ds : List ℕ) × Decimal x ds × (length ds ≡ n)
+Formed (integer b) x = (ds : List ℕ) × Decimal x ds × Whole ds
+Formed (string b) x = (cs : List ℕ) × Spelled x cs × (0 < length cs)
+
+-- its value or its number of characters is too large
+abbrev pub TooLarge : Form → List ℕ → Type 0
+TooLarge prefix x = ⊥
+TooLarge (digits b n) x = ⊥
+TooLarge (integer b) x = (ds : List ℕ) × Decimal x ds × (2 ^ b ≤ value 10 ds)
+TooLarge (string b) x = (cs : List ℕ) × Spelled x cs × (b / 7 < length cs)
+
+-- the run of u up to the next dot is such a part, and there is a dot
+abbrev pub Stands : Form → List ℕ → Type 0
+Stands f u = T (among dot u) × Formed f (upto dot u) × (¬ (TooLarge f (upto dot u)))
+
+-- t is the start, a listed name, the colon, and u
+abbrev pub Named : List ℕ → Scheme → List ℕ → Type 0
+Named t s u = t ≡ start ++ (label s ++ u)
+
+abbrev pub OfText : List ℕ → (Parts → List ℕ → Type 0) → Type 0
+OfText t Q = (s : Scheme) × (u : List ℕ) × Named t s u × Q (about s .parts) u
+
+-- 4: filter is not one digit 0 to 7 and a dot (never for gid-96)
+abbrev pub NoFilter : Parts → List ℕ → Type 0
+NoFilter (F body) u = ¬ ((d : ℕ) × (v : List ℕ) × (d < 8) × (u ≡ digitsText (d ∷ []) ++ dot ∷ v))
+NoFilter (integers a b c) u = ⊥
+
+-- 5: the run up to the next dot is not 6 to 12 digits, or there is no dot; for gid-96, it is no integer below 2^28, or there is no dot
+abbrev pub NoPrefix : Parts → List ℕ → Type 0
+NoPrefix (F body) u = ¬ (Stands prefix (behind dot u))
+NoPrefix (integers a b c) u = ¬ (Stands (integer a) u)
+
+-- the number of the company prefix's digits, which picks the row, and the text behind the prefix and its dot
+abbrev pub OfRow : List ℕ → (ℕ → List ℕ → Type 0) → Type 0
+OfRow u Q = let v = behind dot u in Q (length (upto dot v)) (behind dot v)
+
+-- 6: reference (A to D) is not the row's digits followed by a dot, or by the end for table B;
+-- for gid-96, the run up to the next dot is no integer below 2^24, or there is no dot
+abbrev pub NoCell : Body → ℕ → List ℕ → Type 0
+NoCell (t then f) n w = ¬ (Stands (reference t (rowOf n)) w)
+NoCell (t zeros z) n w = ¬ (Formed (reference t (rowOf n)) w)
+NoCell E n w = ⊥
+
+abbrev pub NoReference : Parts → List ℕ → Type 0
+NoReference (F body) u = OfRow u (NoCell body)
+NoReference (integers a b c) u = ¬ (Stands (integer b) (behind dot u))
+
+-- the form of the last part, and the last part: the rest of the text; table B's reference is settled by 6 alone
+abbrev pub OfEnd : (Form → List ℕ → Type 0) → Body → ℕ → List ℕ → Type 0
+OfEnd Q (t then f) n w = Q f (behind dot w)
+OfEnd Q (t zeros z) n w = ⊥
+OfEnd Q E n w = Q (referenceE (rowOf n)) w
+
+abbrev pub OfLast : (Form → List ℕ → Type 0) → Parts → List ℕ → Type 0
+OfLast Q (F body) u = OfRow u (OfEnd Q body)
+OfLast Q (integers a b c) u = Q (integer c) (behind dot (behind dot u))
+
+unfoldable pub textRules : List ℕ → List Rule
+textRules t =
+    -- doesn't begin with `urn:epc:tag:`
+    rule 2 (¬ ((u : List ℕ) × (t ≡ start ++ u))) ∷
+    -- what follows is not a listed name and a colon
+    rule 3 (¬ ((s : Scheme) × (u : List ℕ) × Named t s u)) ∷
+    rule 4 (OfText t NoFilter) ∷
+    rule 5 (OfText t NoPrefix) ∷
+    rule 6 (OfText t NoReference) ∷
+    -- last part has the wrong form, empty included
+    rule 7 (OfText t (OfLast λ f x. ¬ (Formed f x))) ∷
+    -- last part's value or number of characters is too large
+    rule 8 (OfText t (OfLast TooLarge)) ∷ []
+
+-- BANK TO TEXT
+
+abbrev pub OfBank : List ℕ → (Scheme → Type 0) → Type 0
+OfBank b Q = (s : Scheme) × (at b 0x20 8 ≡ about s .header) × Q s
+
+-- P, and its row
+abbrev pub partitionIn : List ℕ → ℕ
+partitionIn b = at b 0x2B 3
+
+abbrev pub rowIn : List ℕ → Row
+rowIn b = rowAt (partitionIn b)
+
+-- 15: a fill bit or one of the 24 zero bits is 1
+abbrev pub OneAfter : List ℕ → ℕ → Type 0
+OneAfter b n = (a : ℕ) × (0x20 + n ≤ a) × (a < 0x20 + 16 * wordCount b) × (at b a 1 ≡ 1)
+
+-- 16: P is 7
+abbrev pub NoRow : List ℕ → Parts → Type 0
+NoRow b (F body) = partitionIn b ≡ 7
+NoRow b (integers m n k) = ⊥
+
+-- 17: prefix is 10^digits or more
+abbrev pub LargePrefix : List ℕ → Parts → Type 0
+LargePrefix b (F body) = 10 ^ prefixDigits (rowIn b) ≤ at b 0x2E (prefixBits (rowIn b))
+LargePrefix b (integers m n k) = ⊥
+
+-- 18: reference of A to D is 10^digits or more; with 0 digits, not 0
+abbrev pub LargeCell : List ℕ → Cell → Type 0
+LargeCell b c = 10 ^ c .1 ≤ at b (0x2E + prefixBits (rowIn b)) (c .0)
+
+abbrev pub LargeReference : List ℕ → Parts → Type 0
+LargeReference b (F (t then f)) = LargeCell b (cell t (rowIn b))
+LargeReference b (F (t zeros z)) = LargeCell b (cell t (rowIn b))
+LargeReference b (F E) = ⊥
+LargeReference b (integers m n k) = ⊥
+
+-- 19: string begins with a zero, has a nonzero group after a zero, or a group outside table A-1
+abbrev pub WrongGroups : ℕ → (ℕ → ℕ) → Type 0
+WrongGroups k group =
+    (group 0 ≡ 0)
+    ⊎ ((i : ℕ) × (j : ℕ) × (i < j) × (j < k) × (group i ≡ 0) × (¬ (group j ≡ 0)))
+    ⊎ ((i : ℕ) × (i < k) × (¬ (group i ≡ 0)) × (¬ T (character (group i))))
+
+-- a part that ends at code bit n; its first group stands at the part's first bit
+abbrev pub WrongString : List ℕ → ℕ → Form → Type 0
+WrongString b n prefix = ⊥
+WrongString b n (digits m k) = ⊥
+WrongString b n (integer m) = ⊥
+WrongString b n (string m) = WrongGroups (m / 7) λ i. at b (0x20 + (n - m) + 7 * i) 7
+
+abbrev pub WrongLast : List ℕ → ℕ → Parts → Type 0
+WrongLast b n (F (t then f)) = WrongString b n f
+WrongLast b n (F (t zeros z)) = ⊥
+WrongLast b n (F E) = ⊥
+WrongLast b n (integers m k l) = ⊥
+
+-- 9: fewer than 2 bytes, or fewer than 2 + 2W; 10: W is 0
+unfoldable pub rawRules : List ℕ → List Rule
+rawRules b =
+    rule 9 ((length b < 2) ⊎ (length b < 2 + 2 * wordCount b)) ∷
+    rule 10 (wordCount b ≡ 0) ∷ []
+
+unfoldable pub bankRules : List ℕ → List Rule
+bankRules b =
+    rawRules b ++
+    -- toggle is 1
+    (rule 11 (at b 0x17 1 ≡ 1) ∷
+    -- bits 15h, 16h or 18h to 1Fh not all 0
+    rule 12 (¬ ((at b 0x15 1 ≡ 0) × (at b 0x16 1 ≡ 0) × (at b 0x18 8 ≡ 0))) ∷
+    -- header not in the table
+    rule 13 (¬ ((s : Scheme) × (at b 0x20 8 ≡ about s .header))) ∷
+    -- W differs from the scheme's word count
+    rule 14 (OfBank b λ s. ¬ (wordCount b ≡ words s)) ∷
+    rule 15 (OfBank b λ s. OneAfter b (about s .bits - zeroBits (about s .parts))) ∷
+    rule 16 (OfBank b λ s. NoRow b (about s .parts)) ∷
+    rule 17 (OfBank b λ s. LargePrefix b (about s .parts)) ∷
+    rule 18 (OfBank b λ s. LargeReference b (about s .parts)) ∷
+    rule 19 (OfBank b λ s. WrongLast b (about s .bits) (about s .parts)) ∷ [])

@@ -1,0 +1,102 @@
+-- The text of a tag (document 01, "The text of a tag"). No reader is mentioned: a tag is its scheme and its parts, and has one text.
+use Prim.Native.Nat.{ℕ, _/_, _^_}
+use mathlib.Core.Path.{_≡_}
+use mathlib.Core.List.{List, [], _∷_, _++_}
+use mathlib.Core.Bool.{Bool, true, false, _&&_}
+use lib.Dec.{T, leb, ltb, eqb}
+use lib.ListN.{length}
+use Rattle.numeral.specs.Numeral.{value}
+use Rattle.rules.specs.Bytes.{bytes, all, dot, colon, digitsText}
+use Rattle.rules.specs.Schemes.{Form, prefix, digits, integer, string, reference, referenceE, rowOf, Body, _then_, _zeros_, E, Parts, F, integers, Scheme, about}
+use Rattle.rules.specs.Characters.{character, stringText}
+
+-- The parts in their order, each with the number of a text that is refused at it.
+-- What follows a part may depend on its digits: those of the company prefix pick the row.
+pub data Layout : Type 0 where
+  -- a part with a dot behind it, and what follows
+  part : ℕ → Form → (List ℕ → Layout) → Layout
+  -- the last part: the rest of the text
+  last : ℕ → Form → Layout
+
+abbrev pub bodyLayout : Body → ℕ → Layout
+bodyLayout (t then f) n = part 6 (reference t (rowOf n)) λ _. last 7 f
+bodyLayout (t zeros z) n = last 6 (reference t (rowOf n))
+bodyLayout E n = last 7 (referenceE (rowOf n))
+
+abbrev pub laid : Parts → Layout
+laid (F body) = part 4 (integer 3) λ _. part 5 prefix λ ds. bodyLayout body (length ds)
+laid (integers a b c) = part 5 (integer a) λ _. part 6 (integer b) λ _. last 7 (integer c)
+
+abbrev pub layout : Scheme → Layout
+layout s = laid (about s .parts)
+
+-- A part is a list of symbols: digits 0 to 9, or characters.
+abbrev pub digit : ℕ → Bool
+digit d = ltb d 10
+
+abbrev pub symbol : Form → ℕ → Bool
+symbol prefix = digit
+symbol (digits b n) = digit
+symbol (integer b) = digit
+symbol (string b) = character
+
+-- `0`, or digits with no leading zero
+abbrev pub plainNumber : List ℕ → Bool
+plainNumber [] = false
+plainNumber (d ∷ []) = true
+plainNumber (d ∷ e ∷ ds) = ltb 0 d
+
+abbrev pub shaped : Form → List ℕ → Bool
+shaped prefix ds = leb 6 (length ds) && leb (length ds) 12
+shaped (digits b n) ds = eqb (length ds) n
+shaped (integer b) ds = plainNumber ds
+shaped (string b) cs = ltb 0 (length cs)
+
+abbrev pub sized : Form → List ℕ → Bool
+sized prefix ds = true
+sized (digits b n) ds = true
+sized (integer b) ds = ltb (value 10 ds) (2 ^ b)
+sized (string b) cs = leb (length cs) (b / 7)
+
+pub record Fit (f : Form) (p : List ℕ) : Type 0 where
+  pub symbols : T (all (symbol f) p)
+  pub shape : T (shaped f p)
+  pub size : T (sized f p)
+
+-- the parts fit the layout, one by one
+pub data Fits : Layout → List (List ℕ) → Type 0 where
+  more : {n : ℕ} {f : Form} {k : List ℕ → Layout} {p : List ℕ} {ps : List (List ℕ)} → Fit f p → Fits (k p) ps → Fits (part n f k) (p ∷ ps)
+  one : {n : ℕ} {f : Form} {p : List ℕ} → Fit f p → Fits (last n f) (p ∷ [])
+
+pub record Tag : Type 0 where
+  pub scheme : Scheme
+  pub parts : List (List ℕ)
+
+-- How it is written.
+abbrev pub spelled : Form → List ℕ → List ℕ
+spelled prefix = digitsText
+spelled (digits b n) = digitsText
+spelled (integer b) = digitsText
+spelled (string b) = stringText
+
+-- the parts, joined by dots
+abbrev pub written : Layout → List (List ℕ) → List ℕ
+written (part n f k) [] = []
+written (part n f k) (p ∷ ps) = spelled f p ++ dot ∷ written (k p) ps
+written (last n f) [] = []
+written (last n f) (p ∷ ps) = spelled f p
+
+unfoldable pub start : List ℕ
+start = bytes "urn:epc:tag:"
+
+-- a scheme's name and the colon
+abbrev pub label : Scheme → List ℕ
+label s = bytes (about s .name) ++ colon ∷ []
+
+unfoldable pub textOf : Tag → List ℕ
+textOf τ = start ++ (label (τ .scheme) ++ written (layout (τ .scheme)) (τ .parts))
+
+-- t is the text of the tag τ, whose parts keep the limits
+pub record TagText (t : List ℕ) (τ : Tag) : Type 0 where
+  pub fits : Fits (layout (τ .scheme)) (τ .parts)
+  pub text : t ≡ textOf τ

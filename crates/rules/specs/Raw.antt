@@ -1,0 +1,26 @@
+-- The raw line of a bank (document 01, "The bank": Raw line).
+use Prim.Native.Nat.{ℕ, _*_}
+use mathlib.Core.List.{List, [], _∷_, _++_}
+use mathlib.Core.Bool.{_&&_, cond}
+use lib.Dec.{leb, ltb, eqb}
+use lib.ListN.{length, drop}
+use Rattle.numeral.specs.Numeral.{shortest}
+use Rattle.rules.specs.Answers.{Answer, taken, _>>=_, _>>_, demand}
+use Rattle.rules.specs.Bytes.{bytes, digitsText, hexText}
+use Rattle.rules.specs.Coding.{at, wordCount, bankSize, within}
+
+-- `.x` and the AFI, if the toggle is 1
+abbrev pub afi : List ℕ → List ℕ
+afi b = cond (eqb (at b 0x17 1) 1) (bytes ".x" ++ hexText (at b 0x18 8 ∷ [])) []
+
+-- 16 × W in decimal, and the W words
+unfoldable pub rawText : List ℕ → List ℕ
+rawText b =
+    bytes "urn:epc:raw:" ++ (digitsText (shortest 10 (16 * wordCount b)) ++ (afi b ++ (bytes ".x" ++ hexText (drop 2 (within b)))))
+
+-- the raw line gives only 1, 9 and 10
+unfoldable pub rawOfBank : List ℕ → Answer (List ℕ)
+rawOfBank b = do
+  demand (leb 2 (length b) && leb (bankSize (wordCount b)) (length b)) 9
+  demand (ltb 0 (wordCount b)) 10
+  taken (rawText b)

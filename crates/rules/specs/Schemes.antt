@@ -1,0 +1,136 @@
+-- The schemes' table and the partition tables (document 01, "The thirteen schemes").
+use Prim.Native.Nat.{ℕ, zero, suc, _+_, _/_}
+use Prim.Native.String.{String}
+use mathlib.Core.Bool.{true, false}
+use mathlib.Core.List.{List, [], _∷_}
+use lib.Dec.{eqb}
+use lib.ListN.{getD}
+
+-- How a part is written, and in how many bits.
+pub data Form : Type 0 where
+  -- the company prefix, behind its partition value
+  prefix : Form
+  -- `digits b n`: b bits, exactly n digits
+  digits : ℕ → ℕ → Form
+  -- `integer b`: b bits, no leading zero
+  integer : ℕ → Form
+  -- `string b`: b bits, seven a character
+  string : ℕ → Form
+
+-- bits and digits
+abbrev pub Cell : Type 0
+Cell = ℕ × ℕ
+
+-- a row of the partition tables: the company prefix, the reference of A, B, C and D, the bits of E's
+pub data Row : Type 0 where
+  row : (p a b c d : Cell) (e : ℕ) → Row
+
+-- P = 0 to 6
+unfoldable pub rows : List Row
+rows =
+    row (40, 12) (4, 1) (18, 5) (4, 0) (1, 0) 42 ∷
+    row (37, 11) (7, 2) (21, 6) (7, 1) (4, 1) 45 ∷
+    row (34, 10) (10, 3) (24, 7) (10, 2) (7, 2) 48 ∷
+    row (30, 9) (14, 4) (28, 8) (14, 3) (11, 3) 52 ∷
+    row (27, 8) (17, 5) (31, 9) (17, 4) (14, 4) 55 ∷
+    row (24, 7) (20, 6) (34, 10) (20, 5) (17, 5) 58 ∷
+    row (20, 6) (24, 7) (38, 11) (24, 6) (21, 6) 62 ∷ []
+
+abbrev pub prefixBits : Row → ℕ
+prefixBits (row p a b c d e) = p .0
+
+abbrev pub prefixDigits : Row → ℕ
+prefixDigits (row p a b c d e) = p .1
+
+pub data Table : Type 0 where
+  A B C D : Table
+
+-- the reference of A to D
+abbrev pub cell : Table → Row → Cell
+cell A (row p a b c d e) = a
+cell B (row p a b c d e) = b
+cell C (row p a b c d e) = c
+cell D (row p a b c d e) = d
+
+abbrev pub reference : Table → Row → Form
+reference t r = digits (cell t r .0) (cell t r .1)
+
+-- the reference of E
+abbrev pub referenceE : Row → Form
+referenceE (row p a b c d e) = integer e
+
+-- the row of a partition value; past the last there is none
+abbrev pub noRow : Row
+noRow = let none : Cell = (zero, zero) in row none none none none none zero
+
+abbrev pub rowAt : ℕ → Row
+rowAt P = getD rows P noRow
+
+-- the partition value of a company prefix of n digits: their number picks the row
+abbrev pub place : ℕ → List Row → ℕ
+place n [] = zero
+place n (r ∷ rs) = elim (eqb n (prefixDigits r)) [ true ↦ zero | false ↦ suc (place n rs) ]
+
+abbrev pub partition : ℕ → ℕ
+partition n = place n rows
+
+abbrev pub rowOf : ℕ → Row
+rowOf n = rowAt (partition n)
+
+-- A partition table with what follows its reference: a part, or zero bits. Table E's reference is the end.
+pub data Body : Type 0 where
+  _then_ : Table → Form → Body
+  _zeros_ : Table → ℕ → Body
+  E : Body
+
+-- The parts after the header: the filter and a partition table, or integers with no filter.
+pub data Parts : Type 0 where
+  F : Body → Parts
+  integers : (a b c : ℕ) → Parts
+
+infix 40 _then_
+infix 40 _zeros_
+-- a line of the schemes' table
+pub record Line : Type 0 where
+  pub name : String
+  pub header : ℕ
+  pub bits : ℕ
+  pub parts : Parts
+
+abbrev pub line : String → ℕ → ℕ → Parts → Line
+line n h b p = record { name = n; header = h; bits = b; parts = p }
+
+pub data Scheme : Type 0 where
+  sgtin-96 sgtin-198 sscc-96 sgln-96 sgln-195 grai-96 grai-170 : Scheme
+  giai-96 gsrn-96 gsrnp-96 gdti-96 gdti-174 gid-96 : Scheme
+
+abbrev pub about : Scheme → Line
+about sgtin-96 = line "sgtin-96" 0x30 96 (F (A then integer 38))
+about sgtin-198 = line "sgtin-198" 0x36 198 (F (A then string 140))
+about sscc-96 = line "sscc-96" 0x31 96 (F (B zeros 24))
+about sgln-96 = line "sgln-96" 0x32 96 (F (D then integer 41))
+about sgln-195 = line "sgln-195" 0x39 195 (F (D then string 140))
+about grai-96 = line "grai-96" 0x33 96 (F (C then integer 38))
+about grai-170 = line "grai-170" 0x37 170 (F (C then string 112))
+about giai-96 = line "giai-96" 0x34 96 (F E)
+about gsrn-96 = line "gsrn-96" 0x2D 96 (F (B zeros 24))
+about gsrnp-96 = line "gsrnp-96" 0x2E 96 (F (B zeros 24))
+about gdti-96 = line "gdti-96" 0x2C 96 (F (D then integer 41))
+about gdti-174 = line "gdti-174" 0x3E 174 (F (D then string 119))
+about gid-96 = line "gid-96" 0x35 96 (integers 28 24 36)
+
+unfoldable pub schemes : List Scheme
+schemes =
+    sgtin-96 ∷ sgtin-198 ∷ sscc-96 ∷ sgln-96 ∷ sgln-195 ∷ grai-96 ∷ grai-170 ∷
+    giai-96 ∷ gsrn-96 ∷ gsrnp-96 ∷ gdti-96 ∷ gdti-174 ∷ gid-96 ∷ []
+
+-- words of 16 bits: the bit total divided by 16, rounded up
+abbrev pub words : Scheme → ℕ
+words s = (about s .bits + 15) / 16
+
+-- the zero bits at the end of the code
+abbrev pub zeroBits : Parts → ℕ
+zeroBits (F (t then f)) = 0
+zeroBits (F (t zeros z)) = z
+zeroBits (F E) = 0
+zeroBits (integers a b c) = 0

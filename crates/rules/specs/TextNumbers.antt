@@ -1,0 +1,111 @@
+-- Text to bank: the number of a text, read left to right (document 01, "Numbers given, and when": 2 to 8).
+use Prim.Native.Nat.{ℕ, _-_, _/_, _%_}
+use Prim.Native.Char.{code}
+use mathlib.Core.List.{List, [], _∷_}
+use mathlib.Core.Option.{Option, none, some, Option·map}
+use mathlib.Core.Bool.{Bool, _&&_, cond}
+use lib.Dec.{leb, eqb}
+use Rattle.rules.specs.Answers.{Answer, taken, _>>=_, _>>_, demand, given, numberOf}
+use Rattle.rules.specs.Bytes.{among, upto, behind, dot, percent, hexDigit}
+use Rattle.rules.specs.Schemes.{Form, prefix, digits, integer, string, Scheme, schemes}
+use Rattle.rules.specs.Characters.{escaped, plain}
+use Rattle.rules.specs.Grammar.{Layout, part, last, layout, shaped, sized, Tag, start, label}
+
+-- the text behind s, if t begins with s
+abbrev pub after : List ℕ → List ℕ → Option (List ℕ)
+after [] t = some t
+after (x ∷ s) [] = none
+after (x ∷ s) (y ∷ t) = let r = after s t in cond (eqb x y) r none
+
+-- the scheme whose name and colon u begins with, and the text behind them
+pub record Named : Type 0 where
+  pub scheme : Scheme
+  pub rest : List ℕ
+
+abbrev pub choose : Scheme → Option (List ℕ) → Option Named → Option Named
+choose s none o = o
+choose s (some v) o = some (record { scheme = s; rest = v })
+
+abbrev pub named : List Scheme → List ℕ → Option Named
+named [] u = none
+named (s ∷ ss) u = choose s (after (label s) u) (named ss u)
+
+-- the digits of a text that has nothing else
+abbrev pub isDigit : ℕ → Bool
+isDigit x = leb (code "0") x && leb x (code "9")
+
+abbrev pub digitsIn : List ℕ → Option (List ℕ)
+digitsIn [] = some []
+digitsIn (x ∷ xs) = let r = Option·map ((x - code "0") ∷_) (digitsIn xs) in cond (isDigit x) r none
+
+-- the character among es whose escape has these two digits
+abbrev pub escape : List ℕ → ℕ → ℕ → Option ℕ
+escape [] h l = none
+escape (e ∷ es) h l = let r = escape es h l in cond (eqb h (hexDigit (e / 16)) && eqb l (hexDigit (e % 16))) (some e) r
+
+abbrev pub itself : ℕ → Option ℕ
+itself c = cond (plain c) (some c) none
+
+abbrev pub put : Option ℕ → Option (List ℕ) → Option (List ℕ)
+put none r = none
+put (some c) r = Option·map (c ∷_) r
+
+-- the characters of a text, each itself or an escape, that has nothing else
+abbrev pub charactersIn : List ℕ → Option (List ℕ)
+charactersIn [] = some []
+charactersIn (c ∷ []) = put (itself c) (some [])
+charactersIn (c ∷ h ∷ []) = put (itself c) (charactersIn (h ∷ []))
+charactersIn (c ∷ h ∷ l ∷ t) =
+    let e = put (escape escaped h l) (charactersIn t) in
+    let p = put (itself c) (charactersIn (h ∷ l ∷ t)) in
+    cond (eqb c percent) e p
+
+abbrev pub symbolsIn : Form → List ℕ → Option (List ℕ)
+symbolsIn prefix = digitsIn
+symbolsIn (digits b n) = digitsIn
+symbolsIn (integer b) = digitsIn
+symbolsIn (string b) = charactersIn
+
+-- the part that a text of this form is, whatever its size
+abbrev pub kept : (List ℕ → Bool) → Option (List ℕ) → Option (List ℕ)
+kept test none = none
+kept test (some p) = cond (test p) (some p) none
+
+abbrev pub formed : Form → List ℕ → Option (List ℕ)
+formed f t = kept (shaped f) (symbolsIn f t)
+
+-- 4 to 6: a part, up to the next dot
+abbrev pub partIn : ℕ → Form → List ℕ → Answer (List ℕ)
+partIn n f t = do
+  demand (among dot t) n
+  p ← given (formed f (upto dot t)) n
+  demand (sized f p) n
+  taken p
+
+-- 7 and 8: the last part
+abbrev pub lastIn : ℕ → Form → List ℕ → Answer (List ℕ)
+lastIn n f t = do
+  p ← given (formed f t) n
+  demand (sized f p) 8
+  taken p
+
+-- the parts from left to right
+abbrev pub partsIn : Layout → List ℕ → Answer (List (List ℕ))
+partsIn (part n f k) t = do
+  p ← partIn n f t
+  ps ← partsIn (k p) (behind dot t)
+  taken (p ∷ ps)
+partsIn (last n f) t = do
+  p ← lastIn n f t
+  taken (p ∷ [])
+
+-- 2: the start; 3: a listed name and a colon; then the parts
+unfoldable pub tagOfText : List ℕ → Answer Tag
+tagOfText t = do
+  u ← given (after start t) 2
+  c ← given (named schemes u) 3
+  ps ← partsIn (layout (c .scheme)) (c .rest)
+  taken (record { scheme = c .scheme; parts = ps })
+
+unfoldable pub textNumber : List ℕ → ℕ
+textNumber t = numberOf (tagOfText t)
