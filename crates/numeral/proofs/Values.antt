@@ -14,7 +14,7 @@ use Rattle.numeral.proofs.Arithmetic.{mod-mul'}
 pub length-numeral : (b n v : ℕ) → length (numeral b n v) ≡ n
 unfolding numeral
 length-numeral b zero v = refl
-length-numeral b (suc n) v = omega (arith, length-append (numeral b n (v / b)) (v % b ∷ []), length-numeral b n (v / b))
+length-numeral b (suc n) v = rw (length-append, length-numeral b n (v / b)) (omega arith)
 
 pub digits-append : (b : ℕ) (a c : List ℕ) → Digits b a → Digits b c → Digits b (a ++ c)
 digits-append b [] c h k = k

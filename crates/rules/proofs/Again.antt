@@ -13,7 +13,7 @@ use Rattle.rules.specs.Calls.{Call, call, line, bankRoom, textRoom, text
 use Rattle.rules.proofs.Tests.{is-true}
 use Rattle.rules.proofs.TextReads
 use Rattle.rules.proofs.Banks
-use Rattle.rules.proofs.OneAnswer.{text-to-bank, bank-to-text}
+use Rattle.rules.proofs.OneAnswer.{one-answer-of-text-to-bank, one-answer-of-bank-to-text}
 
 -- what a call wrote stands at the output's start
 pub line-is : (out w : List ℕ) (c : Call) → c .written ≡ length w → c .output ≡ w ++ drop (length w) out → line c ≡ w
@@ -22,13 +22,13 @@ line-is out w c n o = rw (n, o) (take-at w (drop (length w) out) (length w) refl
 pub shown-text : (b out : List ℕ) → Digits 256 b → bankToText b out .number ≡ 0 → (τ : Tag) × TagBank b τ × (line (bankToText b out) ≡ textOf τ)
 shown-text b out d e =
     let c = bankToText b out in
-    let (w, r, n, o) = bank-to-text b out d c .1 refl .accepted e in
+    let (w, r, n, o) = one-answer-of-bank-to-text b out d c .1 refl .accepted e in
     (r .0, r .1, line-is out w c n o ∙ r .2)
 
 pub written-bank : (t out : List ℕ) → textToBank t out .number ≡ 0 → (τ : Tag) × TagText t τ × (line (textToBank t out) ≡ bankOf τ)
 written-bank t out e =
     let c = textToBank t out in
-    let (w, r, n, o) = text-to-bank t out c .1 refl .accepted e in
+    let (w, r, n, o) = one-answer-of-text-to-bank t out c .1 refl .accepted e in
     (r .0, r .1, line-is out w c n o ∙ r .2)
 
 -- the calls on a tag's own text and bank

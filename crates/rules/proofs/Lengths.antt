@@ -2,20 +2,20 @@
 use Prim.Native.Nat.{ℕ, suc, _+_, _-_, _*_, _/_, _^_, _≤_, _<_}
 use mathlib.Core.Path.{_≡_, refl, ap}
 use mathlib.Core.List.{List, [], _∷_, _++_}
-use mathlib.Core.Bool.{Bool, true, false, cond}
+use mathlib.Core.Bool.{Bool, true, false}
 use native.Mathlib.Omega.{arith}
 use native.Mathlib.Nat.{le-trans}
-use lib.Dec.{T, leb, ltb, eqb, leb→le, ltb→lt, eqb→eq, lit<, lit≤}
-use lib.ListN.{length, replicate, length-append, length-map, length-take, length-drop}
+use lib.Dec.{T, leb, ltb, leb→le, ltb→lt, eqb→eq, lit<, lit≤}
+use lib.ListN.{length, drop, replicate, length-append, length-map, length-take, length-drop}
 use Rattle.numeral.specs.Numeral.{value, numeral, spread, sizeIn, size, shortest}
 use Rattle.numeral.proofs.Shortest.{length-shortest, size-le}
-use Rattle.rules.specs.Bytes.{bytes, hexText}
+use Rattle.rules.specs.Bytes.{digitsText, bytes, hexText}
 use Rattle.rules.specs.Schemes.{Form, prefix, digits, integer, string, Row, rows, rowOf, cell, referenceE, prefixDigits, partition, Body, _then_, _zeros_, E, Parts, F, integers, Scheme, schemes, about, sgtin-96, sgtin-198, sscc-96, sgln-96, sgln-195, grai-96, grai-170, giai-96, gsrn-96, gsrnp-96, gdti-96, gdti-174, gid-96}
 use Rattle.rules.specs.Characters.{tableA1, escaped, plain, spelling, stringText}
 use Rattle.rules.specs.Grammar.{Layout, part, last, laid, bodyLayout, Fit, Fits, more, one, spelled, written, Tag, TagText, textOf, start, label}
-use Rattle.rules.specs.Coding.{at, wordCount, bankOf}
+use Rattle.rules.specs.Coding.{wordCount, within, bankOf}
 use Rattle.rules.specs.TextNumbers.{tagOfText, textNumber}
-use Rattle.rules.specs.Raw.{afi, rawText}
+use Rattle.rules.specs.Raw.{afi, afiText, rawText}
 use Rattle.rules.proofs.Tests.{every, each}
 use Rattle.rules.proofs.Decimals.{all-digits}
 use Rattle.rules.proofs.Numbers.{whole-of}
@@ -150,19 +150,19 @@ hex-length : (l : List ℕ) → length (hexText l) ≡ 2 * length l
 hex-length [] = refl
 hex-length (x ∷ xs) = omega (arith, hex-length xs)
 
-afi-length : (b : List ℕ) → length (afi b) ≤ 4
-afi-length b = go (eqb (at b 0x17 1) 1)
-  where
-    go : (t : Bool) → length (cond t (bytes ".x" ++ hexText (at b 0x18 8 ∷ [])) []) ≤ 4
-    go true = lit≤ tt
-    go false = lit≤ tt
+afi-length : (t : Bool) (a : ℕ) → length (afiText t a) ≤ 4
+afi-length true a = lit≤ tt
+afi-length false a = lit≤ tt
+
+raw-shape : (n : ℕ) (a x : List ℕ) → n < 1000 → length a ≤ 4 → length x ≤ 62
+    → length (bytes "urn:epc:raw:" ++ (digitsText (shortest 10 n) ++ (a ++ (bytes ".x" ++ hexText x)))) ≤ 145
+raw-shape n a x l m k =
+    let d = size-le 10 (lit< tt) n 3 (lit< tt) l in
+    simp (length-append, length-map, length-shortest 10 (lit< tt), hex-length) (omega arith)
 
 pub raw-length : (b : List ℕ) → length (rawText b) ≤ 145
 unfolding rawText
-raw-length b =
-    let W = wordCount b in
-    let d = size-le 10 (lit< tt) (16 * W) 3 (lit< tt) (omega (arith, at-lt b 0x10 5)) in
-    simp (length-append, length-map, length-shortest 10 (lit< tt), hex-length, length-drop, length-take) (omega (arith, at-lt b 0x10 5, d, afi-length b))
+raw-length b = raw-shape (16 * wordCount b) (afi b) (drop 2 (within b)) (omega (arith, at-lt b 0x10 5)) (search afi-length) (simp (length-drop, length-take) (omega (arith, at-lt b 0x10 5)))
 
 pub sizes-hold : (t b : List ℕ) (τ : Tag) → TagText t τ → (length t ≤ 99) × (length (bankOf τ) ≤ 64) × (length (rawText b) ≤ 145)
 sizes-hold t b τ r = (text-length t τ r, bank-size τ, raw-length b)

@@ -82,9 +82,9 @@ module _ (t out : List ℕ) where
       reads-map (textRules t) (TagText t) (Fitting (BankOf t) out) bankOf (tagOfText t) (TextReads.tag-reads t) λ τ r.
       ((τ, r, refl), omega (arith, bank-size τ))
 
-  pub text-to-bank : (c : Call) → TextToBank t out c ↔ (c ≡ textToBank t out)
+  pub one-answer-of-text-to-bank : (c : Call) → TextToBank t out c ↔ (c ≡ textToBank t out)
   unfolding textToBank
-  text-to-bank =
+  one-answer-of-text-to-bank =
       the-answer (Short bankRoom out ∷ textRules t) (BankOf t) out (bankAnswer t out) (λ v w x y. x .2 ∙ ap bankOf (Exact.one-division t (x .0) (y .0) (x .1) (y .1)) ∙ sym (y .2)) bank-written
 
 module _ (b out : List ℕ) (d : Digits 256 b) where
@@ -95,9 +95,9 @@ module _ (b out : List ℕ) (d : Digits 256 b) where
       let s = Banks.shown-bank b τ d r in
       ((τ, s, refl), omega (arith, text-length (textOf τ) τ (record { fits = s .fits; text = refl })))
 
-  pub bank-to-text : (c : Call) → BankToText b out c ↔ (c ≡ bankToText b out)
+  pub one-answer-of-bank-to-text : (c : Call) → BankToText b out c ↔ (c ≡ bankToText b out)
   unfolding bankToText
-  bank-to-text =
+  one-answer-of-bank-to-text =
       the-answer (Short textRoom out ∷ bankRules b) (TextOf b) out (textAnswer b out) (λ v w x y. x .2 ∙ ap textOf (Exact.one-tag b (x .0) (y .0) (x .1) (y .1)) ∙ sym (y .2)) text-written
 
 module _ (b out : List ℕ) where
@@ -107,9 +107,9 @@ module _ (b out : List ℕ) where
       reads-weaken (rawRules b) _ (Fitting (λ w. w ≡ rawText b) out) (rawOfBank b) (BankReads.raw-reads b) λ w r.
       (r .0, rw (r .0) (omega (arith, raw-length b)))
 
-  pub raw-line : (c : Call) → RawLine b out c ↔ (c ≡ rawLine b out)
+  pub one-answer-of-raw-line : (c : Call) → RawLine b out c ↔ (c ≡ rawLine b out)
   unfolding rawLine
-  raw-line = the-answer (Short textRoom out ∷ rawRules b) (λ w. w ≡ rawText b) out (rawAnswer b out) (λ v w x y. x ∙ sym y) raw-written
+  one-answer-of-raw-line = the-answer (Short textRoom out ∷ rawRules b) (λ w. w ≡ rawText b) out (rawAnswer b out) (λ v w x y. x ∙ sym y) raw-written
 
 -- a call leaves the output as long as it was
 pub same-lengths : (t b out : List ℕ) → Digits 256 b

@@ -1,28 +1,58 @@
 -- What the screen shows for each number, and that a refusal's line never looks like a tag URI.
-use Prim.Native.Nat.{ℕ, zero, suc, _≤_}
-use mathlib.Core.Path.{_≡_, refl, _∙_, ap}
-use mathlib.Core.Logic.{_⊎_, inl, inr, ⊎-elim}
+use Prim.Native.Nat.{ℕ, zero, suc, _≤_, _<_}
+use mathlib.Core.Path.{_≡_, refl, sym, _∙_, ap}
+use mathlib.Core.Logic.{_↔_, _⊎_, inl, inr, ⊎-elim}
 use mathlib.Core.List.{List, [], _∷_, _++_, map}
 use mathlib.Core.Bool.{Bool, true, false, _&&_, cond}
 use native.Mathlib.Omega.{arith}
 use lib.Dec.{leb, eqb, eqb→eq, not-T}
 use lib.ListN.{length, getD, replicate}
+use borrow.Author.Tests.{ne-eqb, le-leb, lt-leb}
 use Rattle.numeral.specs.Numeral.{Digits}
+use Rattle.numeral.proofs.Arithmetic.{lt-or-ge}
 use Rattle.rules.specs.Answers.{refused}
 use Rattle.rules.specs.Grammar.{start}
 use Rattle.rules.specs.Coding.{within}
 use Rattle.rules.specs.Raw.{rawText}
 use Rattle.rules.specs.Screen.{screen}
+use Rattle.rules.specs.Promises.{OnScreen}
 use Rattle.rules.specs.Calls.{Call, line, bankRoom, textToBank, bankToText, rawLine}
 use Rattle.rules.proofs.Tests.{is-false}
 use Rattle.rules.proofs.Numbered.{from}
 use Rattle.rules.proofs.Again.{line-is, again}
-use Rattle.rules.proofs.OneAnswer.{raw-line}
+use Rattle.rules.proofs.OneAnswer.{one-answer-of-raw-line}
 
 -- for every number 0 to 255: 0, then 1 to 10, then 11 to 19, then 20 to 255
 pub screen-shows : (tag raw : List ℕ) → map (screen tag raw) (from 0 256) ≡ tag ∷ replicate 10 [] ++ replicate 9 raw ++ replicate 236 []
 unfolding screen
 screen-shows tag raw = refl
+
+-- one line keeps the promise, and no second
+module _ (tag raw : List ℕ) (n : ℕ) where
+  keeps : OnScreen tag raw n (screen tag raw n)
+  unfolding screen
+  keeps = record {
+    clean = λ e. rw e;
+    broken = λ l u. rw (ne-eqb n 0 (λ e. omega arith), le-leb 11 n l, le-leb n 19 u);
+    other = other;
+  }
+    where
+      other : 0 < n → (n < 11) ⊎ (19 < n) → cond (eqb n 0) tag (cond (leb 11 n && leb n 19) raw []) ≡ []
+      other z (inl h) = rw (ne-eqb n 0 (λ e. omega arith), lt-leb 11 n h)
+      other z (inr h) = rw (ne-eqb n 0 (λ e. omega arith), le-leb 11 n (omega arith), lt-leb n 19 h)
+
+  pub one-answer-of-screen : (l : List ℕ) → OnScreen tag raw n l ↔ (l ≡ screen tag raw n)
+  one-answer-of-screen l = (only, λ e. rw e keeps)
+    where
+      only : OnScreen tag raw n l → l ≡ screen tag raw n
+      only p =
+          ⊎-elim (λ (a : n < 1). p .clean (omega arith) ∙ sym (keeps .clean (omega arith)))
+          (λ (a : 1 ≤ n).
+          ⊎-elim (λ (b : n < 11). p .other a (inl b) ∙ sym (keeps .other a (inl b)))
+          (λ (b : 11 ≤ n).
+          ⊎-elim (λ (c : 19 < n). p .other a (inr c) ∙ sym (keeps .other a (inr c))) (λ (c : n ≤ 19). p .broken b c ∙ sym (keeps .broken b c)) (lt-or-ge 19 n))
+          (lt-or-ge n 11))
+          (lt-or-ge n 1)
 
 abbrev pub LooksLikeATag : List ℕ → Type 0
 LooksLikeATag l = (u : List ℕ) × (l ≡ start ++ u)
@@ -44,10 +74,10 @@ raw-wrote b out = go (c .number) refl
 
     go : (n : ℕ) → rawLine b out .number ≡ n → (line (rawLine b out) ≡ rawText b) ⊎ (line (rawLine b out) ≡ [])
     go zero e =
-        let (w, r, n, o) = raw-line b out (rawLine b out) .1 refl .accepted e in
+        let (w, r, n, o) = one-answer-of-raw-line b out (rawLine b out) .1 refl .accepted e in
         inl (line-is out w (rawLine b out) n o ∙ r)
     go (suc n) e =
-        let (w, o) = raw-line b out (rawLine b out) .1 refl .refused (λ z. omega arith) in
+        let (w, o) = one-answer-of-raw-line b out (rawLine b out) .1 refl .refused (λ z. omega arith) in
         inr (rw w)
 
 raw-wrote-differs : (b out : List ℕ) → ¬ (LooksLikeATag (line (rawLine b out)))

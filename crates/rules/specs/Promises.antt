@@ -1,7 +1,8 @@
 -- What document 01 promises of each public call, in its words; Calls has the one answer that keeps it (proofs/OneAnswer).
-use Prim.Native.Nat.{ℕ, _<_}
+use Prim.Native.Nat.{ℕ, _≤_, _<_}
 use mathlib.Core.Path.{_≡_}
-use mathlib.Core.List.{List, _∷_, _++_}
+use mathlib.Core.Logic.{_⊎_}
+use mathlib.Core.List.{List, [], _∷_, _++_}
 use lib.ListN.{length, drop}
 use Rattle.rules.specs.Grammar.{Tag, TagText, textOf}
 use Rattle.rules.specs.Coding.{TagBank, bankOf}
@@ -28,3 +29,9 @@ BankToText b out = Promised (Short textRoom out ∷ bankRules b) (λ w. (τ : Ta
 
 abbrev pub RawLine : List ℕ → List ℕ → Call → Type 0
 RawLine b out = Promised (Short textRoom out ∷ rawRules b) (λ w. w ≡ rawText b) out
+
+-- the line on the screen: all of the tag text for 0, all of the raw text for 11 to 19, the raw text's empty start for every other number
+pub record OnScreen (tag raw : List ℕ) (n : ℕ) (shown : List ℕ) : Type 0 where
+  pub clean : n ≡ 0 → shown ≡ tag
+  pub broken : 11 ≤ n → n ≤ 19 → shown ≡ raw
+  pub other : 0 < n → (n < 11) ⊎ (19 < n) → shown ≡ []

@@ -1,7 +1,7 @@
 -- The raw line of a bank (document 01, "The bank": Raw line).
 use Prim.Native.Nat.{ℕ, _*_}
 use mathlib.Core.List.{List, [], _∷_, _++_}
-use mathlib.Core.Bool.{_&&_, cond}
+use mathlib.Core.Bool.{Bool, true, false, _&&_}
 use lib.Dec.{leb, ltb, eqb}
 use lib.ListN.{length, drop}
 use Rattle.numeral.specs.Numeral.{shortest}
@@ -10,8 +10,12 @@ use Rattle.rules.specs.Bytes.{bytes, digitsText, hexText}
 use Rattle.rules.specs.Coding.{at, wordCount, bankSize, within}
 
 -- `.x` and the AFI, if the toggle is 1
+abbrev pub afiText : Bool → ℕ → List ℕ
+afiText true a = bytes ".x" ++ hexText (a ∷ [])
+afiText false a = []
+
 abbrev pub afi : List ℕ → List ℕ
-afi b = cond (eqb (at b 0x17 1) 1) (bytes ".x" ++ hexText (at b 0x18 8 ∷ [])) []
+afi b = afiText (eqb (at b 0x17 1) 1) (at b 0x18 8)
 
 -- 16 × W in decimal, and the W words
 unfoldable pub rawText : List ℕ → List ℕ
