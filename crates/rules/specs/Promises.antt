@@ -7,7 +7,7 @@ use lib.ListN.{length, drop}
 use Rattle.rules.specs.Grammar.{Tag, TagText, textOf}
 use Rattle.rules.specs.Coding.{TagBank, bankOf}
 use Rattle.rules.specs.Raw.{rawText}
-use Rattle.rules.specs.Calls.{Call, bankRoom, textRoom}
+use Rattle.rules.specs.Calls.{Call}
 use Rattle.rules.specs.Conditions.{Rule, rule, First, textRules, bankRules, rawRules}
 
 -- the first number that applies is given; accepted is 0 with the length written, output past it unchanged;
@@ -22,13 +22,13 @@ abbrev pub Short : ℕ → List ℕ → Rule
 Short room out = rule 1 (length out < room)
 
 abbrev pub TextToBank : List ℕ → List ℕ → Call → Type 0
-TextToBank t out = Promised (Short bankRoom out ∷ textRules t) (λ w. (τ : Tag) × TagText t τ × (w ≡ bankOf τ)) out
+TextToBank t out = Promised (Short 64 out ∷ textRules t) (λ w. (τ : Tag) × TagText t τ × (w ≡ bankOf τ)) out
 
 abbrev pub BankToText : List ℕ → List ℕ → Call → Type 0
-BankToText b out = Promised (Short textRoom out ∷ bankRules b) (λ w. (τ : Tag) × TagBank b τ × (w ≡ textOf τ)) out
+BankToText b out = Promised (Short 160 out ∷ bankRules b) (λ w. (τ : Tag) × TagBank b τ × (w ≡ textOf τ)) out
 
 abbrev pub RawLine : List ℕ → List ℕ → Call → Type 0
-RawLine b out = Promised (Short textRoom out ∷ rawRules b) (λ w. w ≡ rawText b) out
+RawLine b out = Promised (Short 160 out ∷ rawRules b) (λ w. w ≡ rawText b) out
 
 -- the line on the screen: all of the tag text for 0, all of the raw text for 11 to 19, the raw text's empty start for every other number
 pub record OnScreen (tag raw : List ℕ) (n : ℕ) (shown : List ℕ) : Type 0 where
