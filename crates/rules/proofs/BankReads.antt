@@ -15,7 +15,8 @@ use Rattle.numeral.proofs.Values.{digits-at, digits-take, digits-drop, value-lt
 use Rattle.numeral.proofs.Spreads.{length-spread, digits-spread}
 use Rattle.numeral.proofs.Fields.{field-more}
 use Rattle.rules.specs.Answers.{taken, _>>=_, _>>_, demand, given}
-use Rattle.rules.specs.Schemes.{Parts, F, integers, _then_, _zeros_, E, Scheme, schemes, about, words, zeroBits}
+use Rattle.rules.specs.declared.Scheme.{Scheme}
+use Rattle.rules.specs.Schemes.{Parts, F, integers, _then_, _zeros_, E, schemes, about, words, zeroBits}
 use Rattle.rules.specs.Grammar.{layout, Fits}
 use Rattle.rules.specs.Coding.{binary, coded, at, wordCount, bankSize}
 use Rattle.rules.specs.BankNumbers.{allZero, headed, codeIn, fieldsIn, tagOfBank}

@@ -11,7 +11,8 @@ use Rattle.numeral.specs.Numeral.{value, numeral, Digits, spread}
 use Rattle.numeral.proofs.Values.{length-numeral, digits-numeral, digits-append, digits-take, digits-drop, digits-zeros}
 use Rattle.numeral.proofs.Spreads.{length-spread, digits-spread, spread-append, take-spread, length-gather, spread-gather, gather-spread}
 use Rattle.rules.specs.Answers.{taken}
-use Rattle.rules.specs.Schemes.{Scheme, about, words, zeroBits}
+use Rattle.rules.specs.declared.Scheme.{Scheme}
+use Rattle.rules.specs.Schemes.{about, words, zeroBits}
 use Rattle.rules.specs.Grammar.{layout, Tag, Fits}
 use Rattle.rules.specs.Coding.{binary, coded, codeOf, bitsOf, bankSize, bankOf, at, wordCount, TagBank}
 use Rattle.rules.specs.BankNumbers.{allZero, codeIn, tagOfBank}

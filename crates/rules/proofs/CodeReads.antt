@@ -8,7 +8,8 @@ use lib.ListN.{length, take, drop, length-drop}
 use lib.Seq.{drop-at, drop-drop, take-take}
 use Rattle.numeral.specs.Numeral.{value, Digits}
 use Rattle.numeral.proofs.Values.{digits-drop}
-use Rattle.rules.specs.Schemes.{Table, Row, row, Form, prefix, digits, integer, string, rowAt, rowOf, cell, reference, referenceE, prefixBits, prefixDigits, partition, Body, _then_, _zeros_, E, Parts, F, integers}
+use Rattle.rules.specs.declared.Table.{Table}
+use Rattle.rules.specs.Schemes.{Row, row, Form, prefix, digits, integer, string, rowAt, rowOf, cell, reference, referenceE, prefixBits, prefixDigits, partition, Body, _then_, _zeros_, E, Parts, F, integers}
 use Rattle.rules.specs.Grammar.{Layout, part, last, laid, bodyLayout, Fits, more, one}
 use Rattle.rules.specs.Coding.{partBits, coded, at}
 use Rattle.rules.specs.BankNumbers.{Field, fieldIn, fieldsIn}

@@ -9,7 +9,9 @@ use lib.ListN.{length, length-append}
 use Rattle.numeral.specs.Numeral.{Digits}
 use Rattle.numeral.proofs.Values.{digits-append}
 use Rattle.rules.specs.Answers.{taken}
-use Rattle.rules.specs.Schemes.{Form, prefix, digits, integer, string, Row, rows, rowOf, cell, referenceE, prefixBits, prefixDigits, partition, Body, _then_, _zeros_, E, Parts, F, integers, Scheme, schemes, about, words, zeroBits, sgtin-96, sgtin-198, sscc-96, sgln-96, sgln-195, grai-96, grai-170, giai-96, gsrn-96, gsrnp-96, gdti-96, gdti-174, gid-96}
+use Rattle.rules.specs.declared.Scheme.{Scheme}
+use Rattle.rules.specs.declared.Scheme.the-variants.{Sgtin96, Sgtin198, Sscc96, Sgln96, Sgln195, Grai96, Grai170, Giai96, Gsrn96, Gsrnp96, Gdti96, Gdti174, Gid96}
+use Rattle.rules.specs.Schemes.{Form, prefix, digits, integer, string, Row, rows, rowOf, cell, referenceE, prefixBits, prefixDigits, partition, Body, _then_, _zeros_, E, Parts, F, integers, schemes, about, words, zeroBits}
 use Rattle.rules.specs.Grammar.{Layout, part, last, laid, bodyLayout, layout, Fit, Fits, more, one}
 use Rattle.rules.specs.Coding.{partBits, coded}
 use Rattle.rules.specs.BankNumbers.{headed, fieldsIn}
@@ -50,19 +52,19 @@ pub record Sizes (s : Scheme) : Type 0 where
 
 sound : (s : Scheme) → (headed (about s .header) schemes ≡ some s) × Sizes s
 unfolding schemes rows
-sound sgtin-96 = (refl, omega arith)
-sound sgtin-198 = (refl, omega arith)
-sound sscc-96 = (refl, omega arith)
-sound sgln-96 = (refl, omega arith)
-sound sgln-195 = (refl, omega arith)
-sound grai-96 = (refl, omega arith)
-sound grai-170 = (refl, omega arith)
-sound giai-96 = (refl, omega arith)
-sound gsrn-96 = (refl, omega arith)
-sound gsrnp-96 = (refl, omega arith)
-sound gdti-96 = (refl, omega arith)
-sound gdti-174 = (refl, omega arith)
-sound gid-96 = (refl, omega arith)
+sound Sgtin96 = (refl, omega arith)
+sound Sgtin198 = (refl, omega arith)
+sound Sscc96 = (refl, omega arith)
+sound Sgln96 = (refl, omega arith)
+sound Sgln195 = (refl, omega arith)
+sound Grai96 = (refl, omega arith)
+sound Grai170 = (refl, omega arith)
+sound Giai96 = (refl, omega arith)
+sound Gsrn96 = (refl, omega arith)
+sound Gsrnp96 = (refl, omega arith)
+sound Gdti96 = (refl, omega arith)
+sound Gdti174 = (refl, omega arith)
+sound Gid96 = (refl, omega arith)
 
 pub headed-of : (s : Scheme) → headed (about s .header) schemes ≡ some s
 headed-of s = sound s .0

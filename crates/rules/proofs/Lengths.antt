@@ -10,7 +10,9 @@ use lib.ListN.{length, drop, replicate, length-append, length-map, length-take, 
 use Rattle.numeral.specs.Numeral.{value, numeral, spread, sizeIn, size, shortest}
 use Rattle.numeral.proofs.Shortest.{length-shortest, size-le}
 use Rattle.rules.specs.Bytes.{digitsText, bytes, hexText}
-use Rattle.rules.specs.Schemes.{Form, prefix, digits, integer, string, Row, rows, rowOf, cell, referenceE, prefixDigits, partition, Body, _then_, _zeros_, E, Parts, F, integers, Scheme, schemes, about, sgtin-96, sgtin-198, sscc-96, sgln-96, sgln-195, grai-96, grai-170, giai-96, gsrn-96, gsrnp-96, gdti-96, gdti-174, gid-96}
+use Rattle.rules.specs.declared.Scheme.{Scheme}
+use Rattle.rules.specs.declared.Scheme.the-variants.{Sgtin96, Sgtin198, Sscc96, Sgln96, Sgln195, Grai96, Grai170, Giai96, Gsrn96, Gsrnp96, Gdti96, Gdti174, Gid96}
+use Rattle.rules.specs.Schemes.{Form, prefix, digits, integer, string, Row, rows, rowOf, cell, referenceE, prefixDigits, partition, Body, _then_, _zeros_, E, Parts, F, integers, schemes, about}
 use Rattle.rules.specs.Characters.{tableA1, escaped, plain, spelling, stringText}
 use Rattle.rules.specs.Grammar.{Layout, part, last, laid, bodyLayout, Fit, Fits, more, one, spelled, written, Tag, TagText, textOf, start, label}
 use Rattle.rules.specs.Coding.{wordCount, within, bankOf}
@@ -121,19 +123,19 @@ left s = 99 - (12 + length (label s))
 
 fits-99 : (s : Scheme) → (12 + length (label s) ≤ 99) × PartsWithin (about s .parts) (left s)
 unfolding rows
-fits-99 sgtin-96 = omega arith
-fits-99 sgtin-198 = omega arith
-fits-99 sscc-96 = omega arith
-fits-99 sgln-96 = omega arith
-fits-99 sgln-195 = omega arith
-fits-99 grai-96 = omega arith
-fits-99 grai-170 = omega arith
-fits-99 giai-96 = omega arith
-fits-99 gsrn-96 = omega arith
-fits-99 gsrnp-96 = omega arith
-fits-99 gdti-96 = omega arith
-fits-99 gdti-174 = omega arith
-fits-99 gid-96 = omega arith
+fits-99 Sgtin96 = omega arith
+fits-99 Sgtin198 = omega arith
+fits-99 Sscc96 = omega arith
+fits-99 Sgln96 = omega arith
+fits-99 Sgln195 = omega arith
+fits-99 Grai96 = omega arith
+fits-99 Grai170 = omega arith
+fits-99 Giai96 = omega arith
+fits-99 Gsrn96 = omega arith
+fits-99 Gsrnp96 = omega arith
+fits-99 Gdti96 = omega arith
+fits-99 Gdti174 = omega arith
+fits-99 Gid96 = omega arith
 
 pub text-length : (t : List ℕ) (τ : Tag) → TagText t τ → length t ≤ 99
 unfolding textOf start

@@ -9,7 +9,9 @@ use lib.Dec.{T, eqb, eqb→eq, eqb-refl, lit<}
 use lib.ListN.{length}
 use Rattle.rules.specs.Answers.{taken, given}
 use Rattle.rules.specs.Bytes.{dot}
-use Rattle.rules.specs.Schemes.{Form, prefix, digits, integer, string, Body, _then_, _zeros_, E, Parts, F, integers, Scheme, schemes, about, sgtin-96, sgtin-198, sscc-96, sgln-96, sgln-195, grai-96, grai-170, giai-96, gsrn-96, gsrnp-96, gdti-96, gdti-174, gid-96}
+use Rattle.rules.specs.declared.Scheme.{Scheme}
+use Rattle.rules.specs.declared.Scheme.the-variants.{Sgtin96, Sgtin198, Sscc96, Sgln96, Sgln195, Grai96, Grai170, Giai96, Gsrn96, Gsrnp96, Gdti96, Gdti174, Gid96}
+use Rattle.rules.specs.Schemes.{Form, prefix, digits, integer, string, Body, _then_, _zeros_, E, Parts, F, integers, schemes, about}
 use Rattle.rules.specs.Grammar.{Layout, part, last, laid, bodyLayout, layout, Fit, Fits, more, one, sized, spelled, written, Tag, start, label, textOf, TagText}
 use Rattle.rules.specs.TextNumbers.{after, Named, choose, named, partsIn, tagOfText}
 use Rattle.rules.specs.Conditions.{Rule, rule, Formed, TooLarge, NoFilter, NoPrefix, NoReference, OfLast, OfText, textRules}
@@ -85,19 +87,19 @@ named-is t u e (s ∷ ss) = go (after (label s) u) (after-is (label s) u) (named
 -- each name and colon are the scheme's alone
 named-of : (s : Scheme) (v : List ℕ) → named schemes (label s ++ v) ≡ some (record { scheme = s; rest = v })
 unfolding schemes
-named-of sgtin-96 v = refl
-named-of sgtin-198 v = refl
-named-of sscc-96 v = refl
-named-of sgln-96 v = refl
-named-of sgln-195 v = refl
-named-of grai-96 v = refl
-named-of grai-170 v = refl
-named-of giai-96 v = refl
-named-of gsrn-96 v = refl
-named-of gsrnp-96 v = refl
-named-of gdti-96 v = refl
-named-of gdti-174 v = refl
-named-of gid-96 v = refl
+named-of Sgtin96 v = refl
+named-of Sgtin198 v = refl
+named-of Sscc96 v = refl
+named-of Sgln96 v = refl
+named-of Sgln195 v = refl
+named-of Grai96 v = refl
+named-of Grai170 v = refl
+named-of Giai96 v = refl
+named-of Gsrn96 v = refl
+named-of Gsrnp96 v = refl
+named-of Gdti96 v = refl
+named-of Gdti174 v = refl
+named-of Gid96 v = refl
 
 -- The whole text.
 module _ (t : List ℕ) (s : Scheme) (v : List ℕ) (e : IsNamed t s v) where

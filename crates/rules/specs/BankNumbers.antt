@@ -8,7 +8,8 @@ use lib.ListN.{length, take, drop}
 use Rattle.numeral.specs.Numeral.{value, numeral, spread, gather, shortest}
 use Rattle.rules.specs.Answers.{Answer, taken, _>>=_, _>>_, demand, given, numberOf}
 use Rattle.rules.specs.Bytes.{all}
-use Rattle.rules.specs.Schemes.{Form, prefix, digits, integer, string, Scheme, schemes, about, words, zeroBits, rowAt, prefixBits, prefixDigits}
+use Rattle.rules.specs.declared.Scheme.{Scheme}
+use Rattle.rules.specs.Schemes.{Form, prefix, digits, integer, string, schemes, about, words, zeroBits, rowAt, prefixBits, prefixDigits}
 use Rattle.rules.specs.Characters.{character}
 use Rattle.rules.specs.Grammar.{Layout, part, last, layout, Tag}
 use Rattle.rules.specs.Coding.{at, wordCount, bankSize}

@@ -4,7 +4,8 @@ use mathlib.Core.Path.{_≡_}
 use mathlib.Core.List.{List, [], _∷_, _++_}
 use lib.ListN.{length, take, drop, replicate}
 use Rattle.numeral.specs.Numeral.{value, numeral, spread, gather}
-use Rattle.rules.specs.Schemes.{Form, prefix, digits, integer, string, Scheme, about, words, partition, rowOf, prefixBits}
+use Rattle.rules.specs.declared.Scheme.{Scheme}
+use Rattle.rules.specs.Schemes.{Form, prefix, digits, integer, string, about, words, partition, rowOf, prefixBits}
 use Rattle.rules.specs.Grammar.{Layout, part, last, layout, Tag, Fits}
 
 abbrev pub binary : ℕ → ℕ → List ℕ

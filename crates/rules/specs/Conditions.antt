@@ -7,7 +7,8 @@ use lib.Dec.{T}
 use lib.ListN.{length}
 use Rattle.numeral.specs.Numeral.{value, Digits}
 use Rattle.rules.specs.Bytes.{all, among, upto, behind, dot, digitsText}
-use Rattle.rules.specs.Schemes.{Form, prefix, digits, integer, string, Body, _then_, _zeros_, E, Parts, F, integers, Row, Cell, cell, reference, referenceE, prefixBits, prefixDigits, rowAt, rowOf, Scheme, about, words, zeroBits}
+use Rattle.rules.specs.declared.Scheme.{Scheme}
+use Rattle.rules.specs.Schemes.{Form, prefix, digits, integer, string, Body, _then_, _zeros_, E, Parts, F, integers, Row, Cell, cell, reference, referenceE, prefixBits, prefixDigits, rowAt, rowOf, about, words, zeroBits}
 use Rattle.rules.specs.Characters.{character, stringText}
 use Rattle.rules.specs.Grammar.{start, label}
 use Rattle.rules.specs.Coding.{at, wordCount}

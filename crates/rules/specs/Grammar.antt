@@ -7,7 +7,8 @@ use lib.Dec.{T, leb, ltb, eqb}
 use lib.ListN.{length}
 use Rattle.numeral.specs.Numeral.{value}
 use Rattle.rules.specs.Bytes.{bytes, all, dot, colon, digitsText}
-use Rattle.rules.specs.Schemes.{Form, prefix, digits, integer, string, reference, referenceE, rowOf, Body, _then_, _zeros_, E, Parts, F, integers, Scheme, about}
+use Rattle.rules.specs.declared.Scheme.{Scheme}
+use Rattle.rules.specs.Schemes.{Form, prefix, digits, integer, string, reference, referenceE, rowOf, Body, _then_, _zeros_, E, Parts, F, integers, about}
 use Rattle.rules.specs.Characters.{character, stringText}
 
 -- The parts in their order, each with the number of a text that is refused at it.

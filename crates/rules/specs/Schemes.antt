@@ -5,6 +5,10 @@ use mathlib.Core.Bool.{true, false}
 use mathlib.Core.List.{List, [], _∷_}
 use lib.Dec.{eqb}
 use lib.ListN.{getD}
+use Rattle.rules.specs.declared.Scheme.{Scheme}
+use Rattle.rules.specs.declared.Scheme.the-variants.{Sgtin96, Sgtin198, Sscc96, Sgln96, Sgln195, Grai96, Grai170, Giai96, Gsrn96, Gsrnp96, Gdti96, Gdti174, Gid96}
+use Rattle.rules.specs.declared.Table.{Table}
+use Rattle.rules.specs.declared.Table.the-variants.{A, B, C, D}
 
 -- How a part is written, and in how many bits.
 pub data Form : Type 0 where
@@ -41,9 +45,6 @@ prefixBits (row p a b c d e) = p .0
 
 abbrev pub prefixDigits : Row → ℕ
 prefixDigits (row p a b c d e) = p .1
-
-pub data Table : Type 0 where
-  A B C D : Table
 
 -- the reference of A to D
 abbrev pub cell : Table → Row → Cell
@@ -100,29 +101,25 @@ pub record Line : Type 0 where
 abbrev pub line : String → ℕ → ℕ → Parts → Line
 line n h b p = record { name = n; header = h; bits = b; parts = p }
 
-pub data Scheme : Type 0 where
-  sgtin-96 sgtin-198 sscc-96 sgln-96 sgln-195 grai-96 grai-170 : Scheme
-  giai-96 gsrn-96 gsrnp-96 gdti-96 gdti-174 gid-96 : Scheme
-
 abbrev pub about : Scheme → Line
-about sgtin-96 = line "sgtin-96" 0x30 96 (F (A then integer 38))
-about sgtin-198 = line "sgtin-198" 0x36 198 (F (A then string 140))
-about sscc-96 = line "sscc-96" 0x31 96 (F (B zeros 24))
-about sgln-96 = line "sgln-96" 0x32 96 (F (D then integer 41))
-about sgln-195 = line "sgln-195" 0x39 195 (F (D then string 140))
-about grai-96 = line "grai-96" 0x33 96 (F (C then integer 38))
-about grai-170 = line "grai-170" 0x37 170 (F (C then string 112))
-about giai-96 = line "giai-96" 0x34 96 (F E)
-about gsrn-96 = line "gsrn-96" 0x2D 96 (F (B zeros 24))
-about gsrnp-96 = line "gsrnp-96" 0x2E 96 (F (B zeros 24))
-about gdti-96 = line "gdti-96" 0x2C 96 (F (D then integer 41))
-about gdti-174 = line "gdti-174" 0x3E 174 (F (D then string 119))
-about gid-96 = line "gid-96" 0x35 96 (integers 28 24 36)
+about Sgtin96 = line "sgtin-96" 0x30 96 (F (A then integer 38))
+about Sgtin198 = line "sgtin-198" 0x36 198 (F (A then string 140))
+about Sscc96 = line "sscc-96" 0x31 96 (F (B zeros 24))
+about Sgln96 = line "sgln-96" 0x32 96 (F (D then integer 41))
+about Sgln195 = line "sgln-195" 0x39 195 (F (D then string 140))
+about Grai96 = line "grai-96" 0x33 96 (F (C then integer 38))
+about Grai170 = line "grai-170" 0x37 170 (F (C then string 112))
+about Giai96 = line "giai-96" 0x34 96 (F E)
+about Gsrn96 = line "gsrn-96" 0x2D 96 (F (B zeros 24))
+about Gsrnp96 = line "gsrnp-96" 0x2E 96 (F (B zeros 24))
+about Gdti96 = line "gdti-96" 0x2C 96 (F (D then integer 41))
+about Gdti174 = line "gdti-174" 0x3E 174 (F (D then string 119))
+about Gid96 = line "gid-96" 0x35 96 (integers 28 24 36)
 
 unfoldable pub schemes : List Scheme
 schemes =
-    sgtin-96 ∷ sgtin-198 ∷ sscc-96 ∷ sgln-96 ∷ sgln-195 ∷ grai-96 ∷ grai-170 ∷
-    giai-96 ∷ gsrn-96 ∷ gsrnp-96 ∷ gdti-96 ∷ gdti-174 ∷ gid-96 ∷ []
+    Sgtin96 ∷ Sgtin198 ∷ Sscc96 ∷ Sgln96 ∷ Sgln195 ∷ Grai96 ∷ Grai170 ∷
+    Giai96 ∷ Gsrn96 ∷ Gsrnp96 ∷ Gdti96 ∷ Gdti174 ∷ Gid96 ∷ []
 
 -- words of 16 bits: the bit total divided by 16, rounded up
 abbrev pub words : Scheme → ℕ

@@ -7,7 +7,8 @@ use mathlib.Core.Bool.{Bool, _&&_, cond}
 use lib.Dec.{leb, eqb}
 use Rattle.rules.specs.Answers.{Answer, taken, _>>=_, _>>_, demand, given, numberOf}
 use Rattle.rules.specs.Bytes.{among, upto, behind, dot, percent, hexDigit}
-use Rattle.rules.specs.Schemes.{Form, prefix, digits, integer, string, Scheme, schemes}
+use Rattle.rules.specs.declared.Scheme.{Scheme}
+use Rattle.rules.specs.Schemes.{Form, prefix, digits, integer, string, schemes}
 use Rattle.rules.specs.Characters.{escaped, plain}
 use Rattle.rules.specs.Grammar.{Layout, part, last, layout, shaped, sized, Tag, start, label}
 
