@@ -1,12 +1,12 @@
 -- The tables' inner rules, computed over every row, scheme and character.
-use Prim.Native.Nat.{ℕ, _+_, _-_, _^_, _≤_, _<_}
+use Prim.Native.Nat.{ℕ, _+_, _-_, _*_, _^_, _≤_, _<_}
 use mathlib.Core.Path.{_≡_, refl}
 use mathlib.Core.List.{[], _∷_, _++_, map}
 use mathlib.Core.Bool.{false}
 use native.Mathlib.Omega.{arith}
 use lib.ListN.{length}
 use Rattle.rules.specs.Bytes.{bytes}
-use Rattle.rules.specs.Schemes.{Row, row, rows, schemes, words}
+use Rattle.rules.specs.Schemes.{Row, row, rows, schemes, wordsFor, words}
 use Rattle.rules.specs.Characters.{tableA1, escaped, spelling}
 use Rattle.rules.proofs.Rows.{AllRows}
 use Rattle.rules.proofs.Numbered.{from}
@@ -33,7 +33,10 @@ pub partition-tables : AllRows InnerRules 0 rows
 unfolding rows
 partition-tables = (omega arith, (omega arith, (omega arith, (omega arith, (omega arith, omega arith)))))
 
--- the words of each scheme, in the table's order
+-- words are rounded up, for every bit total; and those of each scheme, in the table's order
+pub rounded-up : (bits : ℕ) → (bits ≤ 16 * wordsFor bits) × (16 * wordsFor bits < bits + 16)
+rounded-up bits = (omega arith, omega arith)
+
 pub word-counts : map words schemes ≡ 6 ∷ 13 ∷ 6 ∷ 6 ∷ 13 ∷ 6 ∷ 11 ∷ 6 ∷ 6 ∷ 6 ∷ 6 ∷ 11 ∷ 6 ∷ []
 unfolding schemes
 word-counts = refl

@@ -1,5 +1,5 @@
 -- A text is the list of its bytes.
-use Prim.Native.Nat.{ℕ, _+_, _/_, _%_}
+use Prim.Native.Nat.{ℕ, zero, _+_, _/_, _%_}
 use Prim.Native.Char.{code}
 use Prim.Native.String.{String, [] as empty, _∷_ as _then_}
 use mathlib.Core.List.{List, [], _∷_, map}
@@ -46,7 +46,7 @@ digitsText = map (code "0" +_)
 
 -- two upper-case hex digits for each byte
 abbrev pub hexDigit : ℕ → ℕ
-hexDigit n = getD (bytes "0123456789ABCDEF") n 0
+hexDigit n = getD (bytes "0123456789ABCDEF") n zero
 
 abbrev pub hexText : List ℕ → List ℕ
 hexText [] = []

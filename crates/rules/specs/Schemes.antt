@@ -122,8 +122,11 @@ schemes =
     Giai96 ∷ Gsrn96 ∷ Gsrnp96 ∷ Gdti96 ∷ Gdti174 ∷ Gid96 ∷ []
 
 -- words of 16 bits: the bit total divided by 16, rounded up
+abbrev pub wordsFor : ℕ → ℕ
+wordsFor bits = (bits + 15) / 16
+
 abbrev pub words : Scheme → ℕ
-words s = (about s .bits + 15) / 16
+words s = wordsFor (about s .bits)
 
 -- the zero bits at the end of the code
 abbrev pub zeroBits : Parts → ℕ
