@@ -1,0 +1,2 @@
+-- Laws that the schemes' code and its callers lean on.
+pub mod Columns

@@ -1,0 +1,53 @@
+-- `reference` meets its contract: each table's two arrays are its columns.
+use mathlib.Core.Path.{refl}
+use borrow.Author.Needs.{needs}
+use Rattle.rules.specs.declared.Table.the-variants.{A, B, C, D}
+use Rattle.rules.specs.Schemes.{rows}
+use Rattle.scheme.proofs.Columns.{reference-at}
+use Rattle.scheme.proofs.rows.reference.Statement.{statement}
+use Rattle.scheme.proofs.rows.reference.Tie as tie
+
+returns-A : tie.Need-returns
+unfolding rows
+returns-A c = reference-at _ A _ _ (c .before .before .args .p) (c .enum-told .given .1) refl refl refl refl
+
+returns-B : tie.Need-returns-2
+unfolding rows
+returns-B c = reference-at _ B _ _ (c .before .before .args .p) (c .enum-told2 .given .1) refl refl refl refl
+
+returns-C : tie.Need-returns-3
+unfolding rows
+returns-C c = reference-at _ C _ _ (c .before .before .args .p) (c .enum-told3 .given .1) refl refl refl refl
+
+returns-D : tie.Need-returns-4
+unfolding rows
+returns-D c = reference-at _ D _ _ (c .before .before .args .p) (c .enum-told4 .given .1) refl refl refl refl
+
+pub reference-spec : {M : Type 1} → statement M
+reference-spec =
+    tie.close
+    (tie.spec
+    (λ c. search needs)
+    (λ c. search needs)
+    (λ c. search needs)
+    (λ c. search needs)
+    (λ c. search needs)
+    (λ c. search needs)
+    (λ c. search needs)
+    (λ c. search needs)
+    (λ c. search needs)
+    (λ c. search needs)
+    (λ c. search needs)
+    (λ c. search needs)
+    (λ c. search needs)
+    (λ c. search needs)
+    (λ c. search needs)
+    (λ c. search needs)
+    (λ c. search needs)
+    (λ c. search needs)
+    (λ c. search needs)
+    (λ c. search needs)
+    returns-A
+    returns-B
+    returns-C
+    returns-D)

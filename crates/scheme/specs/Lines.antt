@@ -1,0 +1,40 @@
+-- A line of the schemes' table as the code holds it, and what a header names.
+use Prim.Native.Nat.{ℕ}
+use mathlib.Core.Option.{Option, none, some}
+use Rattle.rules.specs.declared.Scheme.{Scheme}
+use Rattle.rules.specs.Schemes.{Form, prefix, digits, integer, string, Body, _then_, _zeros_, E, F, integers, schemes, about, words}
+use Rattle.rules.specs.Schemes.{Parts as RulesParts}
+use Rattle.rules.specs.BankNumbers.{headed}
+use Rattle.scheme.specs.declared.lines.Parts.{Parts}
+use Rattle.scheme.specs.declared.lines.Parts.the-variants.{Integer, String, Zeros, Asset, Integers}
+use Rattle.scheme.specs.declared.lines.Line.{Line}
+use Rattle.scheme.specs.declared.lines.Headed.{Headed}
+use Rattle.scheme.specs.declared.lines.Headed.the-variants.{Is, Unlisted}
+
+-- the rules' parts that the code's stand for
+abbrev pub partsOf : Parts → RulesParts
+partsOf (Integer t n) = F (t then integer n)
+partsOf (String t n) = F (t then string n)
+partsOf (Zeros t n) = F (t zeros n)
+partsOf Asset = F E
+partsOf (Integers a b c) = integers a b c
+
+-- and the other way; a last part is an integer or a string
+abbrev pub partsFor : RulesParts → Parts
+partsFor (F (t then prefix)) = Asset
+partsFor (F (t then digits b n)) = Asset
+partsFor (F (t then integer n)) = Integer t n
+partsFor (F (t then string n)) = String t n
+partsFor (F (t zeros n)) = Zeros t n
+partsFor (F E) = Asset
+partsFor (integers a b c) = Integers a b c
+
+abbrev pub lineOf : Scheme → Line
+lineOf s = record { header = about s .header; bits = about s .bits; words = words s; parts = partsFor (about s .parts) }
+
+abbrev pub named : Option Scheme → Headed
+named none = Unlisted
+named (some s) = Is s
+
+unfoldable pub headedBy : ℕ → Headed
+headedBy h = named (headed h schemes)

@@ -1,0 +1,78 @@
+-- The record of a tag, from its parts.
+use Prim.Native.Nat.{ℕ}
+use mathlib.Core.List.{List, [], _++_}
+use lib.ListN.{length, getD, take, replicate}
+use Rattle.numeral.specs.Numeral.{value}
+use Rattle.rules.specs.Schemes.{Form, prefix, digits, integer, string, Body, _then_, _zeros_, E, Parts, F, integers, about}
+use Rattle.rules.specs.Grammar.{Tag}
+use Rattle.scheme.specs.declared.record.Record.{Record}
+
+-- the i-th part, and its value
+abbrev pub partAt : List (List ℕ) → ℕ → List ℕ
+partAt ps i = getD ps i []
+
+abbrev pub valueAt : List (List ℕ) → ℕ → ℕ
+valueAt ps i = value 10 (partAt ps i)
+
+abbrev pub filterOf : Parts → List (List ℕ) → ℕ
+filterOf (F body) ps = valueAt ps 0
+filterOf (integers a b c) ps = 0
+
+abbrev pub prefixOf : Parts → List (List ℕ) → ℕ
+prefixOf (F body) ps = valueAt ps 1
+prefixOf (integers a b c) ps = valueAt ps 0
+
+abbrev pub digitsOf : Parts → List (List ℕ) → ℕ
+digitsOf (F body) ps = length (partAt ps 1)
+digitsOf (integers a b c) ps = 0
+
+abbrev pub referenceOf : Parts → List (List ℕ) → ℕ
+referenceOf (F (t then f)) ps = valueAt ps 2
+referenceOf (F (t zeros z)) ps = valueAt ps 2
+referenceOf (F E) ps = 0
+referenceOf (integers a b c) ps = valueAt ps 1
+
+-- a last part that is an integer
+abbrev pub lastNumber : Form → List ℕ → ℕ
+lastNumber prefix p = 0
+lastNumber (digits b n) p = 0
+lastNumber (integer b) p = value 10 p
+lastNumber (string b) p = 0
+
+abbrev pub serialOf : Parts → List (List ℕ) → ℕ
+serialOf (F (t then f)) ps = lastNumber f (partAt ps 3)
+serialOf (F (t zeros z)) ps = 0
+serialOf (F E) ps = valueAt ps 2
+serialOf (integers a b c) ps = valueAt ps 2
+
+-- a last part that is a string
+abbrev pub lastCharacters : Form → List ℕ → List ℕ
+lastCharacters prefix p = []
+lastCharacters (digits b n) p = []
+lastCharacters (integer b) p = []
+lastCharacters (string b) p = p
+
+abbrev pub charactersOf : Parts → List (List ℕ) → List ℕ
+charactersOf (F (t then f)) ps = lastCharacters f (partAt ps 3)
+charactersOf (F (t zeros z)) ps = []
+charactersOf (F E) ps = []
+charactersOf (integers a b c) ps = []
+
+-- twenty places, zeros behind the characters
+abbrev pub padded : List ℕ → List ℕ
+padded cs = take 20 (cs ++ replicate 20 0)
+
+unfoldable pub recordOf : Tag → Record
+recordOf τ =
+    let p = about (τ .scheme) .parts in
+    let ps = τ .parts in
+    record {
+      scheme = τ .scheme;
+      filter = filterOf p ps;
+      prefix = prefixOf p ps;
+      digits = digitsOf p ps;
+      reference = referenceOf p ps;
+      serial = serialOf p ps;
+      characters = padded (charactersOf p ps);
+      count = length (charactersOf p ps);
+    }

@@ -1,0 +1,87 @@
+// The rows of the partition tables (document 01, "The thirteen schemes"): by partition value, and by the digits of a company prefix.
+use rules::Table;
+ghost use mathlib.Core.Path.{_≡_};
+ghost use Prim.Native.Nat.{_≤_, _<_};
+ghost use Rattle.rules.specs.Schemes.{partition, rowAt};
+ghost use Rattle.scheme.specs.Rows.{prefixOf, referenceOf, assetOf};
+
+// P = 0 to 6, of which each is a column here.
+const PREFIX_BITS: [usize; 7] = [40, 37, 34, 30, 27, 24, 20];
+
+const PREFIX_DIGITS: [usize; 7] = [12, 11, 10, 9, 8, 7, 6];
+
+const A_BITS: [usize; 7] = [4, 7, 10, 14, 17, 20, 24];
+
+const A_DIGITS: [usize; 7] = [1, 2, 3, 4, 5, 6, 7];
+
+const B_BITS: [usize; 7] = [18, 21, 24, 28, 31, 34, 38];
+
+const B_DIGITS: [usize; 7] = [5, 6, 7, 8, 9, 10, 11];
+
+const C_BITS: [usize; 7] = [4, 7, 10, 14, 17, 20, 24];
+
+const C_DIGITS: [usize; 7] = [0, 1, 2, 3, 4, 5, 6];
+
+const D_BITS: [usize; 7] = [1, 4, 7, 11, 14, 17, 21];
+
+const D_DIGITS: [usize; 7] = [0, 1, 2, 3, 4, 5, 6];
+
+const E_BITS: [usize; 7] = [42, 45, 48, 52, 55, 58, 62];
+
+// A cell of a row: bits and digits.
+pub struct Cell {
+    pub bits: usize,
+    pub digits: usize,
+}
+
+// The partition value of a company prefix.
+pub fn by_digits(digits: usize) -> usize
+    requires { ⌜ (6 ≤ digits) × (digits ≤ 12) ⌝ }
+    ensures { λ r. ⌜ r ≡ partition digits ⌝ }
+{
+    12 - digits
+}
+
+// The company prefix of a row.
+pub fn prefix(p: usize) -> Cell
+    requires { ⌜ p < 7 ⌝ }
+    ensures { λ r. ⌜ r ≡ prefixOf (rowAt p) ⌝ }
+{
+    Cell {
+        bits: PREFIX_BITS[p],
+        digits: PREFIX_DIGITS[p],
+    }
+}
+
+// The reference of a row in one of the tables A to D.
+pub fn reference(t: Table, p: usize) -> Cell
+    requires { ⌜ p < 7 ⌝ }
+    ensures { λ r. ⌜ r ≡ referenceOf t (rowAt p) ⌝ }
+{
+    match t {
+        Table::A => Cell {
+            bits: A_BITS[p],
+            digits: A_DIGITS[p],
+        },
+        Table::B => Cell {
+            bits: B_BITS[p],
+            digits: B_DIGITS[p],
+        },
+        Table::C => Cell {
+            bits: C_BITS[p],
+            digits: C_DIGITS[p],
+        },
+        Table::D => Cell {
+            bits: D_BITS[p],
+            digits: D_DIGITS[p],
+        },
+    }
+}
+
+// The bits of a row's reference in table E.
+pub fn asset(p: usize) -> usize
+    requires { ⌜ p < 7 ⌝ }
+    ensures { λ r. ⌜ r ≡ assetOf (rowAt p) ⌝ }
+{
+    E_BITS[p]
+}
