@@ -45,6 +45,10 @@ digits-drop b zero ds h = h
 digits-drop b (suc n) [] h = tt
 digits-drop b (suc n) (d ∷ ds) h = digits-drop b n ds (h .1)
 
+pub digits-left : (b : ℕ) (a c : List ℕ) → Digits b (a ++ c) → Digits b a
+digits-left b [] c h = tt
+digits-left b (d ∷ a) c h = (h .0, digits-left b a c (h .1))
+
 pub digits-right : (b : ℕ) (a c : List ℕ) → Digits b (a ++ c) → Digits b c
 digits-right b [] c h = h
 digits-right b (d ∷ a) c h = digits-right b a c (h .1)

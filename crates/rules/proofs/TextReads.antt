@@ -17,7 +17,7 @@ use Rattle.rules.specs.TextNumbers.{after, Named, choose, named, partsIn
 use Rattle.rules.specs.Conditions.{Rule, rule, Formed, TooLarge, NoFilter, NoPrefix, NoReference, OfLast, OfText, textRules}
 use Rattle.rules.specs.Conditions.{Named as IsNamed}
 use Rattle.rules.proofs.Tests.{is-true}
-use Rattle.rules.proofs.Answers.{Gives, Decides, decided, Reads, settled-given, step, reads-map, Covers, done, same, reads-covers}
+use Rattle.rules.proofs.Answers.{Gives, gives-map, Decides, decided, Reads, settled-given, step, reads-map, Covers, done, same, reads-covers}
 use Rattle.rules.proofs.Runs.{without, among-of, upto-of, behind-of}
 use Rattle.rules.proofs.Decimals.{no-dots}
 use Rattle.rules.proofs.Forms.{formed-at}
@@ -57,7 +57,7 @@ separable (F body) = (tt, λ _. (tt, λ ds. body-separable body (length ds)))
 separable (integers a b c) = (tt, λ _. (tt, λ _. tt))
 
 -- The start.
-after-is : (s t : List ℕ) → Gives (λ u. t ≡ s ++ u) (after s t)
+pub after-is : (s t : List ℕ) → Gives (λ u. t ≡ s ++ u) (after s t)
 after-is [] t = refl
 after-is (x ∷ s) [] = tt
 after-is (x ∷ s) (y ∷ t) = go (eqb x y) (eqb→eq x y) (after s t) (after-is s t)
@@ -67,7 +67,7 @@ after-is (x ∷ s) (y ∷ t) = go (eqb x y) (eqb→eq x y) (after s t) (after-is
     go true e none h = tt
     go true e (some u) h = ap₂ _∷_ (sym (e tt)) h
 
-after-of : (s u : List ℕ) → after s (s ++ u) ≡ some u
+pub after-of : (s u : List ℕ) → after s (s ++ u) ≡ some u
 after-of [] u = refl
 after-of (x ∷ s) u = rw (is-true (eqb x x) (eqb-refl x), after-of s u)
 
@@ -75,17 +75,17 @@ same-rest : (s u v : List ℕ) → s ++ u ≡ s ++ v → u ≡ v
 same-rest s u v e = cc (after-of s u, after-of s v, ap (after s) e)
 
 -- The name.
-named-is : (t u : List ℕ) → t ≡ start ++ u → (ss : List Scheme) → Gives (λ c. IsNamed t (c .scheme) (c .rest)) (named ss u)
-named-is t u e [] = tt
-named-is t u e (s ∷ ss) = go (after (label s) u) (after-is (label s) u) (named ss u) (named-is t u e ss)
+pub named-is : (ss : List Scheme) (u : List ℕ) → Gives (λ c. u ≡ label (c .scheme) ++ c .rest) (named ss u)
+named-is [] u = tt
+named-is (s ∷ ss) u = go (after (label s) u) (after-is (label s) u) (named ss u) (named-is ss u)
   where
-    go : (o : Option (List ℕ)) → Gives (λ v. u ≡ label s ++ v) o → (q : Option Named) → Gives (λ c. IsNamed t (c .scheme) (c .rest)) q
-        → Gives (λ c. IsNamed t (c .scheme) (c .rest)) (choose s o q)
+    go : (o : Option (List ℕ)) → Gives (λ v. u ≡ label s ++ v) o → (q : Option Named) → Gives (λ c. u ≡ label (c .scheme) ++ c .rest) q
+        → Gives (λ c. u ≡ label (c .scheme) ++ c .rest) (choose s o q)
     go none h q i = i
-    go (some v) h q i = e ∙ ap (start ++_) h
+    go (some v) h q i = h
 
 -- each name and colon are the scheme's alone
-named-of : (s : Scheme) (v : List ℕ) → named schemes (label s ++ v) ≡ some (record { scheme = s; rest = v })
+pub named-of : (s : Scheme) (v : List ℕ) → named schemes (label s ++ v) ≡ some (record { scheme = s; rest = v })
 unfolding schemes
 named-of Sgtin96 v = refl
 named-of Sgtin198 v = refl
@@ -141,7 +141,9 @@ start-decided t = decided (Started t) (λ u. t ≡ start ++ u) (after start t) (
 
 name-decided : (t u : List ℕ) → t ≡ start ++ u → Decides (¬ (Listed t)) (λ c. IsNamed t (c .scheme) (c .rest)) (named schemes u)
 name-decided t u e =
-    decided (Listed t) (λ c. IsNamed t (c .scheme) (c .rest)) (named schemes u) (named-is t u e schemes) (λ c r. (c .scheme, c .rest, r)) λ r.
+    decided (Listed t) (λ c. IsNamed t (c .scheme) (c .rest)) (named schemes u)
+    (gives-map (λ c. u ≡ label (c .scheme) ++ c .rest) (λ c. IsNamed t (c .scheme) (c .rest)) (named schemes u) (named-is schemes u) λ c r. e ∙ ap (start ++_) r)
+    (λ c r. (c .scheme, c .rest, r)) λ r.
     (record { scheme = r .0; rest = r .1 }, rw (same-rest start u (label (r .0) ++ r .1) (sym e ∙ r .2)) (named-of (r .0) (r .1)))
 
 pub tag-reads : (t : List ℕ) → Reads (textRules t) (TagText t) (tagOfText t)

@@ -1,0 +1,3 @@
+-- Bits of bytes, most significant first: a field that is read, a stream that is written.
+pub mod Bits
+pub mod Streams

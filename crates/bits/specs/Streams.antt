@@ -1,0 +1,38 @@
+-- A stream of bits that fills bytes: what is stored, and what waits for its byte to be full.
+use mathlib.Core.Path.{_≡_}
+use Prim.Native.Nat.{ℕ, _+_, _/_, _^_, _≤_, _<_}
+use mathlib.Core.List.{List, _++_}
+use lib.ListN.{length}
+use Rattle.numeral.specs.Numeral.{numeral, Digits, splice}
+use Rattle.bits.specs.Bits.{bits}
+use Rattle.bits.specs.declared.Stream.{Stream}
+
+-- the bits that wait
+abbrev pub waiting : Stream → List ℕ
+waiting s = numeral 2 (s .count) (s .bits)
+
+-- fewer than a byte's bits wait, and nothing stands above them
+pub record Sound (s : Stream) : Type 0 where
+  pub few : s .count < 8
+  pub clear : s .bits < 2 ^ s .count
+
+-- the bits ds are written into `before` from byte a on, which left `after`: the bytes `whole` are stored, and the bits behind theirs wait
+pub record Written (before : List ℕ) (a : ℕ) (ds after : List ℕ) (s : Stream) : Type 0 where
+  pub whole : List ℕ
+  pub bytes : Digits 256 whole
+  pub parts : ds ≡ bits whole ++ waiting s
+  pub stored : after ≡ splice before a whole
+  pub stands : s .at ≡ a + length whole
+  pub inside : s .at ≤ length before
+
+-- the same, with all bytes stored that are full
+pub record Streamed (before : List ℕ) (a : ℕ) (ds after : List ℕ) (s : Stream) : Type 0 where
+  pub sound : Sound s
+  pub written : Written before a ds after s
+
+-- v is a number of `width` bits that s can take, with room for it in so many bytes; 7 bits that wait and 57 more are a word
+pub record Takes (s : Stream) (width v bytes : ℕ) : Type 0 where
+  pub sound : Sound s
+  pub narrow : width ≤ 57
+  pub small : v < 2 ^ width
+  pub room : s .at + (s .count + width) / 8 ≤ bytes

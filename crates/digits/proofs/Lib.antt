@@ -1,0 +1,4 @@
+-- The laws of digits in texts.
+pub mod Texts
+pub mod Runs
+pub mod Parts

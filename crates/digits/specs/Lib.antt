@@ -1,0 +1,2 @@
+-- Digits in texts.
+pub mod Digits

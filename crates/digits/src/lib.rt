@@ -1,0 +1,109 @@
+// Digits in texts: numbers written in decimal and bytes in hexadecimal, and runs of decimal digits read.
+ghost use mathlib.Core.Path.{_≡_};
+ghost use Prim.Native.Nat.{_+_, _*_, _≤_, _<_};
+ghost use lib.ListN.{length, drop};
+ghost use Rattle.numeral.specs.Numeral.{value, numeral, size, shortest, splice};
+ghost use Rattle.rules.specs.Bytes.{all, digitsText, hexDigit, hexText};
+ghost use Rattle.rules.specs.TextNumbers.{isDigit};
+ghost use Rattle.digits.specs.Digits.{leadingDigits};
+
+// Writes v in decimal, most significant digit first, from index `at` on with no leading zero, and returns the index after it.
+pub fn put_decimal(out: &mut [u8], at: usize, v: u64) -> usize
+    requires { ⌜ at + size 10 v ≤ length (now out) ⌝ }
+    ensures { λ r. ⌜ r ≡ at + size 10 v ⌝ }
+    ensures { λ _. ⌜ now (out .exit) ≡ splice (now (out .entry)) at (digitsText (shortest 10 v)) ⌝ }
+{
+    if v < 10 {
+        out[at] = b'0' + v as u8;
+        at + 1
+    } else {
+        let end = put_decimal(out, at, v / 10);
+        out[end] = b'0' + (v % 10) as u8;
+        end + 1
+    }
+}
+
+// Writes the n lowest digits of v from index `at` on. The calls go n deep; a part of document 01 has 12 digits at most.
+pub fn put_digits(out: &mut [u8], at: usize, n: usize, v: u64)
+    requires { ⌜ at + n ≤ length (now out) ⌝ }
+    ensures { λ _. ⌜ now (out .exit) ≡ splice (now (out .entry)) at (digitsText (numeral 10 n v)) ⌝ }
+{
+    if 0 < n {
+        let last = n - 1;
+        put_digits(out, at, last, v / 10);
+        out[at + last] = b'0' + (v % 10) as u8;
+    }
+}
+
+// The upper-case hexadecimal digit of d.
+pub fn hex(d: u8) -> u8
+    requires { ⌜ d < 16 ⌝ }
+    ensures { λ r. ⌜ r ≡ hexDigit d ⌝ }
+{
+    if d < 10 { b'0' + d } else { b'A' + (d - 10) }
+}
+
+// Writes all of src from index `at` on, two upper-case digits a byte.
+pub fn put_hex(out: &mut [u8], at: usize, src: &[u8])
+    requires { ⌜ at + 2 * length (now src) ≤ length (now out) ⌝ }
+    ensures { λ _. ⌜ now (out .exit) ≡ splice (now (out .entry)) at (hexText (now (src .entry))) ⌝ }
+{
+    let mut p = at;
+    for i in 0..src.len() {
+        let x = src[i];
+        out[p] = hex(x / 16);
+        out[p + 1] = hex(x % 16);
+        p += 2;
+    }
+}
+
+// Whether c is a decimal digit.
+pub fn is_digit(c: u8) -> bool
+    ensures { λ r. ⌜ r ≡ isDigit c ⌝ }
+{
+    b'0' <= c && c <= b'9'
+}
+
+// A run of digits: the index after it, and its value.
+pub struct Run {
+    pub end: usize,
+    pub value: u64,
+}
+
+// The digits from index `at` on, at most 19 of them: the value of 19 fits a word, and more are too many for a part of digits
+// and too large for an integer, which has 62 bits at most.
+pub fn run_at(text: &[u8], at: usize) -> Run
+    requires { ⌜ at ≤ length (now text) ⌝ }
+    ensures { λ r. ⌜ r .end ≡ at + length (leadingDigits 19 (drop at (now (text .entry)))) ⌝ }
+    ensures { λ r. ⌜ r .value ≡ value 10 (leadingDigits 19 (drop at (now (text .entry)))) ⌝ }
+    ensures { λ r. ⌜ (r .end ≤ length (now (text .entry))) × (r .end ≤ at + 19) ⌝ }
+{
+    let rest = text.len() - at;
+    let most = if rest < 19 { rest } else { 19 };
+    let mut n = 0;
+    let mut value: u64 = 0;
+    while n < most {
+        let c = text[at + n];
+        if !is_digit(c) {
+            break;
+        }
+        value = value * 10 + (c - b'0') as u64;
+        n += 1;
+    }
+    Run { end: at + n, value }
+}
+
+// Whether all bytes from index `at` on are digits: asked behind a run, so that no byte is looked at twice.
+pub fn all_digits(text: &[u8], at: usize) -> bool
+    requires { ⌜ at ≤ length (now text) ⌝ }
+    ensures { λ r. ⌜ r ≡ all isDigit (drop at (now (text .entry))) ⌝ }
+{
+    let mut i = at;
+    while i < text.len() {
+        if !is_digit(text[i]) {
+            return false;
+        }
+        i += 1;
+    }
+    true
+}

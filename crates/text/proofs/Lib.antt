@@ -1,0 +1,4 @@
+-- Laws that the reader and the writer of a text lean on.
+pub mod Runs
+pub mod Tails
+pub mod Keys

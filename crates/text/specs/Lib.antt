@@ -1,0 +1,2 @@
+-- What the reader and the writer of a text are measured by.
+pub mod Names

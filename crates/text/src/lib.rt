@@ -1,0 +1,2 @@
+// The text of a tag to its record, and the record to the text.
+pub mod names;
