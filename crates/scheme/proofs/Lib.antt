@@ -1,2 +1,3 @@
 -- Laws that the schemes' code and its callers lean on.
 pub mod Columns
+pub mod Shapes

@@ -1,11 +1,15 @@
 -- The record of a tag, from its parts.
 use Prim.Native.Nat.{ℕ}
+use mathlib.Core.Path.{_≡_}
 use mathlib.Core.List.{List, [], _++_}
 use lib.ListN.{length, getD, take, replicate}
 use Rattle.numeral.specs.Numeral.{value}
 use Rattle.rules.specs.Schemes.{Form, prefix, digits, integer, string, Body, _then_, _zeros_, E, Parts, F, integers, about}
-use Rattle.rules.specs.Grammar.{Tag}
+use Rattle.rules.specs.declared.Scheme.the-variants.{Sgtin96}
+use Rattle.rules.specs.Answers.{Answer, refused, taken}
+use Rattle.rules.specs.Grammar.{Tag, Fits, layout}
 use Rattle.scheme.specs.declared.record.Record.{Record}
+use Rattle.scheme.specs.declared.record.Reading.{Reading}
 
 -- the i-th part, and its value
 abbrev pub partAt : List (List ℕ) → ℕ → List ℕ
@@ -76,3 +80,29 @@ recordOf τ =
       characters = padded (charactersOf p ps);
       count = length (charactersOf p ps);
     }
+
+-- r is the record of the tag τ, whose parts keep the limits
+pub record RecordIs (r : Record) (τ : Tag) : Type 0 where
+  pub fits : Fits (layout (τ .scheme)) (τ .parts)
+  pub same : r ≡ recordOf τ
+
+-- a blank record, for a refusal
+abbrev pub blank : Record
+blank = record {
+  scheme = Sgtin96;
+  filter = 0;
+  prefix = 0;
+  digits = 0;
+  reference = 0;
+  serial = 0;
+  characters = replicate 20 0;
+  count = 0;
+}
+
+abbrev pub refusal : ℕ → Reading
+refusal n = record { number = n; tag = blank }
+
+-- what a reader's answer is in code
+abbrev pub readingOf : Answer Tag → Reading
+readingOf (refused n) = refusal n
+readingOf (taken τ) = record { number = 0; tag = recordOf τ }

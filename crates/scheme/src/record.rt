@@ -1,8 +1,10 @@
 // The record of a tag: what its text and its bank both say, by value.
 use rules::Scheme;
+ghost use mathlib.Core.Path.{_≡_};
+ghost use Rattle.scheme.specs.Records.{refusal};
 
-// `digits` are those of the prefix. What a scheme has no part for is 0, so that a tag has one record. gid-96's three integers are prefix, reference and serial;
-// giai-96's reference, its last part, is the serial.
+// `digits` are those of the prefix. What a scheme has no part for is 0, so that a tag has one record: gid-96's three integers are
+// prefix, reference and serial, and giai-96's reference, its last part, is the serial.
 pub struct Record {
     pub scheme: Scheme,
     pub filter: u64,
@@ -12,4 +14,28 @@ pub struct Record {
     pub serial: u64,
     pub characters: [u8; 20],
     pub count: usize,
+}
+
+// What reading a text or a bank gives: number 0 and the record of its tag, or the number of the refusal and a blank record.
+pub struct Reading {
+    pub number: u8,
+    pub tag: Record,
+}
+
+pub fn refused(number: u8) -> Reading
+    ensures { λ r. ⌜ r ≡ refusal number ⌝ }
+{
+    Reading {
+        number,
+        tag: Record {
+            scheme: Scheme::Sgtin96,
+            filter: 0,
+            prefix: 0,
+            digits: 0,
+            reference: 0,
+            serial: 0,
+            characters: [0; 20],
+            count: 0,
+        },
+    }
 }
