@@ -1,0 +1,241 @@
+// The characters of table A-1, and string parts: read from a text, written to one, counted among a bank's groups.
+mod table;
+
+ghost use mathlib.Core.Path.{_≡_};
+ghost use mathlib.Core.List.{[], _∷_};
+ghost use Prim.Native.Nat.{_+_, _*_, _<_, _≤_};
+ghost use lib.ListN.{length, take, drop, set};
+ghost use Rattle.numeral.specs.Numeral.{splice};
+ghost use Rattle.rules.specs.Bytes.{percent, hexDigit};
+ghost use Rattle.rules.specs.Characters.{plain, spelling, stringText};
+ghost use Rattle.rules.specs.TextNumbers.{charactersIn};
+ghost use Rattle.rules.specs.BankNumbers.{stringIn};
+ghost use Rattle.alphabet.specs.Strings.{classOf, spelledOf, countOf};
+ghost use Rattle.alphabet.specs.Readers.{partOf, Kept, escapeIn, foundOf, Width};
+
+// The class of a byte.
+pub fn class(c: u8) -> u8
+    ensures { λ r. ⌜ r ≡ classOf c ⌝ }
+{
+    table::CLASS[c as usize]
+}
+
+// What a text spells: the number of its characters, and the first twenty of them, zeros behind; or that its form is wrong.
+// No scheme holds more than twenty.
+pub struct Spelled {
+    pub right: bool,
+    pub count: usize,
+    pub characters: [u8; 20],
+}
+
+// What the readers answer: the number of characters, or a wrong form.
+enum Part {
+    Characters(usize),
+    Wrong,
+}
+
+// The character of an escape, if it is one.
+enum Found {
+    Character(u8),
+    Nothing,
+}
+
+// The character whose escape has these two digits.
+fn character(h: u8, l: u8) -> Found
+    ensures { λ r. ⌜ r ≡ foundOf (escapeIn (h ∷ l ∷ [])) ⌝ }
+{
+    match h {
+        b'2' => match l {
+            b'2' => Found::Character(b'"'),
+            b'5' => Found::Character(b'%'),
+            b'6' => Found::Character(b'&'),
+            b'F' => Found::Character(b'/'),
+            _ => Found::Nothing,
+        },
+        b'3' => match l {
+            b'C' => Found::Character(b'<'),
+            b'E' => Found::Character(b'>'),
+            b'F' => Found::Character(b'?'),
+            _ => Found::Nothing,
+        },
+        _ => Found::Nothing,
+    }
+}
+
+// The same, of the two bytes from `at` on.
+fn character_at(text: &[u8], at: usize) -> Found
+    requires { ⌜ at ≤ length (now text) ⌝ }
+    ensures { λ r. ⌜ r ≡ foundOf (escapeIn (drop at (now (text .entry)))) ⌝ }
+{
+    if text.len() - at < 2 {
+        return Found::Nothing;
+    }
+    character(text[at], text[at + 1])
+}
+
+// How many bytes the character at `at` takes, 0 where none begins there.
+fn width(text: &[u8], at: usize) -> usize
+    requires { ⌜ at < length (now text) ⌝ }
+    ensures { λ r. ⌜ Width (now (text .entry)) at r ⌝ }
+{
+    let b = text[at];
+    if class(b) == 1 {
+        return 1;
+    }
+    if b != b'%' {
+        return 0;
+    }
+    let Found::Character(_) = character_at(text, at + 1) else {
+        return 0;
+    };
+    3
+}
+
+// Counts the characters from `at` on, where n are counted already, and keeps none. It is a loop, and `escape` goes on here
+// once the room is full: so the two readers call each other no more often than there is room, however long the text is.
+fn rest(text: &[u8], at: usize, n: usize) -> Part
+    requires { ⌜ (at ≤ length (now text)) × (n ≤ at) ⌝ }
+    ensures { λ r. ⌜ r ≡ partOf n (charactersIn (drop at (now (text .entry)))) ⌝ }
+{
+    let mut i = at;
+    let mut m = n;
+    while i < text.len() {
+        let w = width(text, i);
+        if w == 0 {
+            return Part::Wrong;
+        }
+        i += w;
+        m += 1;
+    }
+    Part::Characters(m)
+}
+
+// Keeps a character at its place, where there is room.
+fn keep(kept: &mut [u8], n: usize, c: u8)
+    ensures { λ _. ⌜ now (kept .exit) ≡ set (now (kept .entry)) n c ⌝ }
+{
+    if n < kept.len() {
+        kept[n] = c;
+    }
+}
+
+// Reads characters that stand for themselves, and goes on with the escape reader at a percent sign.
+fn plain_run(text: &[u8], at: usize, n: usize, kept: &mut [u8]) -> Part
+    requires { ⌜ (at ≤ length (now text)) × (n ≤ at) ⌝ }
+    ensures { λ r. ⌜ r ≡ partOf n (charactersIn (drop at (now (text .entry)))) ⌝ }
+    ensures { λ _. ⌜ Kept (charactersIn (drop at (now (text .entry)))) n (now (kept .entry)) (now (kept .exit)) ⌝ }
+{
+    let mut i = at;
+    let mut m = n;
+    while i < text.len() {
+        let b = text[i];
+        if class(b) == 1 {
+            keep(kept, m, b);
+            m += 1;
+            i += 1;
+        } else if b == b'%' {
+            return escape(text, i + 1, m, kept);
+        } else {
+            return Part::Wrong;
+        }
+    }
+    Part::Characters(m)
+}
+
+// Reads an escape whose percent sign stands before `at`, and goes on with the plain-run reader.
+fn escape(text: &[u8], at: usize, n: usize, kept: &mut [u8]) -> Part
+    requires { ⌜ (at ≤ length (now text)) × (n < at) ⌝ }
+    ensures { λ r. ⌜ r ≡ partOf n (charactersIn (percent ∷ drop at (now (text .entry)))) ⌝ }
+    ensures { λ _. ⌜ Kept (charactersIn (percent ∷ drop at (now (text .entry)))) n (now (kept .entry)) (now (kept .exit)) ⌝ }
+{
+    let Found::Character(c) = character_at(text, at) else {
+        return Part::Wrong;
+    };
+    if n < kept.len() {
+        kept[n] = c;
+        return plain_run(text, at + 2, n + 1, kept);
+    }
+    rest(text, at + 2, n + 1)
+}
+
+// Reads the string part that stands from `at` on to the end of the text.
+pub fn read(text: &[u8], at: usize) -> Spelled
+    requires { ⌜ at ≤ length (now text) ⌝ }
+    ensures { λ r. ⌜ r ≡ spelledOf (charactersIn (drop at (now (text .entry)))) ⌝ }
+{
+    let mut characters = [0u8; 20];
+    match plain_run(text, at, 0, &mut characters) {
+        Part::Characters(count) => Spelled {
+            right: true,
+            count,
+            characters,
+        },
+        Part::Wrong => Spelled {
+            right: false,
+            count: 0,
+            characters: [0u8; 20],
+        },
+    }
+}
+
+// The upper-case hex digit of a number below 16.
+fn hex(d: u8) -> u8
+    requires { ⌜ d < 16 ⌝ }
+    ensures { λ r. ⌜ r ≡ hexDigit d ⌝ }
+{
+    table::HEX[d as usize]
+}
+
+// Writes the text of one character from index `at` on, and returns the index after it.
+fn put(out: &mut [u8], at: usize, c: u8) -> usize
+    requires { ⌜ at + 3 ≤ length (now out) ⌝ }
+    ensures { λ r. ⌜ r ≡ at + length (spelling (plain c) c) ⌝ }
+    ensures { λ _. ⌜ now (out .exit) ≡ splice (now (out .entry)) at (spelling (plain c) c) ⌝ }
+{
+    if class(c) == 1 {
+        out[at] = c;
+        return at + 1;
+    }
+    out[at] = b'%';
+    out[at + 1] = hex(c / 16);
+    out[at + 2] = hex(c % 16);
+    at + 3
+}
+
+// Writes the text of the first n characters from index `at` on, and returns the index after it.
+pub fn write(characters: &[u8], n: usize, out: &mut [u8], at: usize) -> usize
+    requires { ⌜ (n ≤ length (now characters)) × (at + 3 * n ≤ length (now out)) ⌝ }
+    ensures { λ r. ⌜ r ≡ at + length (stringText (take n (now (characters .entry)))) ⌝ }
+    ensures { λ _. ⌜ now (out .exit) ≡ splice (now (out .entry)) at (stringText (take n (now (characters .entry)))) ⌝ }
+{
+    let mut p = at;
+    let mut j = 0;
+    while j < n {
+        p = put(out, p, characters[j]);
+        j += 1;
+    }
+    p
+}
+
+// The number of characters in the first k groups of a string; 0 where rule 19 refuses them.
+pub fn count(groups: [u8; 20], k: usize) -> usize
+    requires { ⌜ k ≤ 20 ⌝ }
+    ensures { λ r. ⌜ r ≡ countOf (stringIn (take k groups)) ⌝ }
+{
+    let mut n = 0;
+    let mut i = 0;
+    while i < k {
+        let g = groups[i];
+        if g != 0 {
+            if n < i {
+                return 0;
+            }
+            if class(g) == 0 {
+                return 0;
+            }
+            n = i + 1;
+        }
+        i += 1;
+    }
+    n
+}
