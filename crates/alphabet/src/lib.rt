@@ -21,7 +21,7 @@ pub fn class(c: u8) -> u8
 }
 
 // What a text spells: the number of its characters, and the first twenty of them, zeros behind; or that its form is wrong.
-// No scheme holds more than twenty.
+// No scheme holds more than twenty; the number goes on, since a wrong form (7) is told before too many characters (8).
 pub struct Spelled {
     pub right: bool,
     pub count: usize,
@@ -62,7 +62,7 @@ fn character(h: u8, l: u8) -> Found
     }
 }
 
-// The same, of the two bytes from `at` on.
+// The character whose escape has its two digits at `at`.
 fn character_at(text: &[u8], at: usize) -> Found
     requires { ⌜ at ≤ length (now text) ⌝ }
     ensures { λ r. ⌜ r ≡ foundOf (escapeIn (drop at (now (text .entry)))) ⌝ }
@@ -119,7 +119,8 @@ fn keep(kept: &mut [u8], n: usize, c: u8)
     }
 }
 
-// Reads characters that stand for themselves, and goes on with the escape reader at a percent sign.
+// "A plain character and an escape may follow each other freely" (document 01): two readers that call each other.
+// This one reads characters that stand for themselves, and goes on with `escape` at a percent sign.
 fn plain_run(text: &[u8], at: usize, n: usize, kept: &mut [u8]) -> Part
     requires { ⌜ (at ≤ length (now text)) × (n ≤ at) ⌝ }
     ensures { λ r. ⌜ r ≡ partOf n (charactersIn (drop at (now (text .entry)))) ⌝ }
@@ -142,7 +143,7 @@ fn plain_run(text: &[u8], at: usize, n: usize, kept: &mut [u8]) -> Part
     Part::Characters(m)
 }
 
-// Reads an escape whose percent sign stands before `at`, and goes on with the plain-run reader.
+// Reads an escape whose percent sign stands before `at`, and goes on with `plain_run`.
 fn escape(text: &[u8], at: usize, n: usize, kept: &mut [u8]) -> Part
     requires { ⌜ (at ≤ length (now text)) × (n < at) ⌝ }
     ensures { λ r. ⌜ r ≡ partOf n (charactersIn (percent ∷ drop at (now (text .entry)))) ⌝ }

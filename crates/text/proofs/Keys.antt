@@ -2,7 +2,7 @@
 use Prim.Native.Nat.{ℕ, _+_, _≤_, _<_}
 use mathlib.Core.Path.{_≡_, refl, sym, ap, ap₂, _∙_}
 use mathlib.Core.Bool.{Bool, true, false, cond}
-use mathlib.Core.List.{List, [], _∷_, _++_, append-assoc}
+use mathlib.Core.List.{List, [], _∷_, _++_}
 use mathlib.Core.Option.{Option, none, some}
 use native.Mathlib.Omega.{arith}
 use lib.Dec.{T, eqb, eqb→eq}
@@ -21,7 +21,6 @@ use Rattle.rules.proofs.Runs.{without, run-is, among-of, upto-of}
 use Rattle.rules.proofs.TextReads.{named-is, named-of}
 use Rattle.rules.proofs.Answers.{Gives}
 use Rattle.text.specs.Names.{Tailed, namedBy, namedAt, firstOf, restOf, keyOf, keyed, keyedBy}
-use Rattle.text.specs.declared.names.Named.{Named}
 use Rattle.text.specs.declared.names.Named.the-variants.{Is, Unlisted}
 use Rattle.text.specs.declared.names.Tail.{Tail}
 use Rattle.text.specs.declared.names.Keyed.{Keyed}

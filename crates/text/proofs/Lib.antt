@@ -2,3 +2,6 @@
 pub mod Runs
 pub mod Tails
 pub mod Keys
+pub mod Fitting
+pub mod Standing
+pub mod Ends

@@ -1,17 +1,17 @@
 -- A run with no separator in it grows byte by byte.
 use Prim.Native.Nat.{ℕ, zero, suc, _+_, _*_, _≤_, _<_}
-use mathlib.Core.Path.{_≡_, refl, sym, ap, _∙_}
-use mathlib.Core.Bool.{Bool, true, false, _&&_, _||_, not}
+use mathlib.Core.Path.{_≡_, sym, ap, _∙_}
+use mathlib.Core.Bool.{true, not}
 use mathlib.Core.List.{List, [], _∷_, _++_}
 use native.Mathlib.Omega.{arith}
 use native.Mathlib.Numerals.{add-one}
 use lib.Dec.{T, eqb}
 use lib.ListN.{length, take, drop, getD, length-append, take-append-drop}
-use lib.Seq.{take-suc, drop-cons, take-all}
+use lib.Seq.{take-suc, drop-cons}
 use Rattle.numeral.specs.Numeral.{value}
 use Rattle.numeral.proofs.Values.{value-snoc}
 use Rattle.rules.specs.Bytes.{among, upto, behind}
-use Rattle.rules.proofs.Tests.{is-true, is-false, both, and}
+use Rattle.rules.proofs.Tests.{is-false, both, and}
 use Rattle.rules.proofs.Runs.{without, run-is, among-of, upto-of, behind-of}
 
 without-append : (x : ℕ) (s t : List ℕ) → T (without x s) → T (without x t) → T (without x (s ++ t))

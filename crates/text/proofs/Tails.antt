@@ -1,13 +1,13 @@
 -- The rest of a name, read up to its colon: what each way out of the loop says.
 use Prim.Native.Nat.{ℕ, _+_, _-_, _*_, _^_, _≤_, _<_}
-use mathlib.Core.Path.{_≡_, refl, sym, ap, _∙_}
-use mathlib.Core.Bool.{Bool, true, false, not}
+use mathlib.Core.Path.{_≡_, sym, ap, _∙_}
+use mathlib.Core.Bool.{true, false}
 use mathlib.Core.List.{List}
 use native.Mathlib.Omega.{arith}
 use native.Mathlib.Nat.{lt-of-lt-of-le, pow-le-pow-right}
 use lib.Dec.{T, eqb, eqb→eq, not-T, lit<}
 use lib.ListN.{length, take, drop, getD, length-take, length-drop}
-use lib.Seq.{getD-drop, length-take-le, take-all}
+use lib.Seq.{getD-drop, length-take-le}
 use Rattle.numeral.specs.Numeral.{value, Digits}
 use Rattle.numeral.proofs.Values.{digits-take, value-lt}
 use Rattle.rules.specs.Bytes.{colon, upto}

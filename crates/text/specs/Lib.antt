@@ -1,2 +1,3 @@
 -- What the reader and the writer of a text are measured by.
 pub mod Names
+pub mod Parts

@@ -1,2 +1,3 @@
 // The text of a tag to its record, and the record to the text.
 pub mod names;
+pub mod parts;

@@ -1,0 +1,67 @@
+-- A numeric part as the code holds it: its form, its value and its digits.
+use Prim.Native.Nat.{ℕ, _+_, _^_, _≤_}
+use mathlib.Core.Bool.{Bool, true, false, _&&_, _||_, not, cond}
+use mathlib.Core.List.{List}
+use lib.Dec.{leb, ltb, eqb}
+use lib.ListN.{length}
+use Rattle.numeral.specs.Numeral.{value}
+use Rattle.rules.specs.Answers.{Answer, refused, taken}
+use Rattle.rules.specs.Schemes.{prefix, digits, integer, string}
+use Rattle.rules.specs.Schemes.{Form as RulesForm}
+use Rattle.text.specs.declared.parts.Form.{Form}
+use Rattle.text.specs.declared.parts.Form.the-variants.{Prefix, Digits, Integer}
+use Rattle.text.specs.declared.parts.Part.{Part}
+use Rattle.text.specs.declared.parts.Last.{Last}
+
+-- the rules' form; the bits of a part with a fixed number of digits play no part in its text
+abbrev pub formOf : Form → RulesForm
+formOf Prefix = prefix
+formOf (Digits n) = digits 0 n
+formOf (Integer b) = integer b
+
+-- nineteen digits are enough to tell whether a part is in the form
+abbrev pub Short : Form → Type 0
+Short Prefix = Unit
+Short (Digits n) = n ≤ 19
+Short (Integer b) = b ≤ 63
+
+-- `0`, or no leading zero, by the number of digits and whether the first is 0
+abbrev pub plainly : ℕ → Bool → Bool
+plainly n zero = eqb n 1 || (ltb 1 n && not zero)
+
+-- a part's test by numbers alone: how many digits, whether the first is 0, the value
+abbrev pub fitting : RulesForm → ℕ → Bool → ℕ → Bool
+fitting prefix n zero v = leb 6 n && leb n 12
+fitting (digits b k) n zero v = eqb n k
+fitting (integer b) n zero v = plainly n zero && ltb v (2 ^ b)
+fitting (string b) n zero v = false
+
+abbrev pub noPart : Part
+noPart = record { right = false; value = 0; digits = 0; next = 0 }
+
+-- what a part that stands at an index is in code
+abbrev pub foundOf : ℕ → Answer (List ℕ) → Part
+foundOf at (refused n) = noPart
+foundOf at (taken p) = record { right = true; value = value 10 p; digits = length p; next = at + length p + 1 }
+
+abbrev pub noLast : ℕ → Last
+noLast n = record { number = n; value = 0 }
+
+-- what a last part is in code
+abbrev pub lastOf : Answer (List ℕ) → Last
+lastOf (refused n) = noLast n
+lastOf (taken p) = record { number = 0; value = value 10 p }
+
+-- an integer of more digits than are read, by the rest of it and its first digit
+abbrev pub longerOf : Bool → Bool → Last
+longerOf true true = noLast 7
+longerOf true false = noLast 8
+longerOf false zero = noLast 7
+
+-- an integer by its number of digits, its first digit and its value: its form, then its size
+abbrev pub sizedOf : Bool → ℕ → Last
+sizedOf true v = record { number = 0; value = v }
+sizedOf false v = noLast 8
+
+abbrev pub shorterOf : ℕ → ℕ → Bool → ℕ → Last
+shorterOf b n zero v = cond (plainly n zero) (sizedOf (ltb v (2 ^ b)) v) (noLast 7)
