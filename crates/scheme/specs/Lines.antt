@@ -1,5 +1,5 @@
 -- A line of the schemes' table as the code holds it, and what a header names.
-use Prim.Native.Nat.{ℕ}
+use Prim.Native.Nat.{ℕ, _≤_}
 use mathlib.Core.Option.{Option, none, some}
 use Rattle.rules.specs.declared.Scheme.{Scheme}
 use Rattle.rules.specs.Schemes.{Form, prefix, digits, integer, string, Body, _then_, _zeros_, E, F, integers, schemes, about, words}
@@ -28,6 +28,14 @@ partsFor (F (t then string n)) = String t n
 partsFor (F (t zeros n)) = Zeros t n
 partsFor (F E) = Asset
 partsFor (integers a b c) = Integers a b c
+
+-- an integer is below 2 ^ 62, a string has at most twenty characters
+abbrev pub Narrow : Parts → Type 0
+Narrow (Integer t n) = n ≤ 62
+Narrow (String t n) = n ≤ 140
+Narrow (Zeros t n) = Unit
+Narrow Asset = Unit
+Narrow (Integers a b c) = (a ≤ 62) × (b ≤ 62) × (c ≤ 62)
 
 abbrev pub lineOf : Scheme → Line
 lineOf s = record { header = about s .header; bits = about s .bits; words = words s; parts = partsFor (about s .parts) }

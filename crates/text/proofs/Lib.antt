@@ -5,3 +5,6 @@ pub mod Keys
 pub mod Fitting
 pub mod Standing
 pub mod Ends
+pub mod Starts
+pub mod Found
+pub mod Lasts

@@ -18,10 +18,10 @@ use Rattle.rules.specs.TextNumbers.{digitsIn, symbolsIn, kept, partIn}
 use Rattle.digits.specs.Digits.{leadingDigits}
 use Rattle.digits.proofs.Runs.{leading, run-starts}
 use Rattle.digits.proofs.Parts.{part-at, no-part-at}
-use Rattle.text.specs.Parts.{formOf, Short, fitting, noPart, foundOf}
+use Rattle.text.specs.Parts.{formOf, Short, fitting, foundOf}
 use Rattle.text.specs.declared.parts.Form.{Form}
 use Rattle.text.specs.declared.parts.Form.the-variants.{Prefix, Digits, Integer}
-use Rattle.text.specs.declared.parts.Part.{Part}
+use Rattle.text.specs.declared.parts.Part.the-variants.{Is, Wrong}
 use Rattle.text.proofs.Fitting.{zeroFirst, fitting-is, too-many}
 
 -- each form of the code is one of digits
@@ -30,7 +30,7 @@ symbols-digits Prefix x = refl
 symbols-digits (Digits n) x = refl
 symbols-digits (Integer b) x = refl
 
-abbrev right : Form → List ℕ → Bool
+abbrev pub right : Form → List ℕ → Bool
 right f ds = shaped (formOf f) ds && sized (formOf f) ds
 
 -- a part is taken if it has a dot behind it and its digits are right
@@ -78,12 +78,12 @@ pub first-byte : (text : List ℕ) (at : ℕ) → getD text at 0 ≡ getD (digit
 first-byte text at =
     ap (λ i. getD text i 0) (sym (add-zero at)) ∙ sym (getD-drop at text 0 0) ∙ ap (λ l. getD l 0 0) (run-starts (leading 19 (drop at text)))
 
-same-part : (v n m v′ n′ m′ : ℕ) → v ≡ v′ → n ≡ n′ → m ≡ m′ → _≡_ {A = Part} (record { right = true; value = v; digits = n; next = m }) (record { right = true; value = v′; digits = n′; next = m′ })
-same-part v n m v′ n′ m′ e f g = λ i. record { right = true; value = e i; digits = f i; next = g i }
+same-part : (v n m v′ n′ m′ : ℕ) → v ≡ v′ → n ≡ n′ → m ≡ m′ → Is v n m ≡ Is v′ n′ m′
+same-part v n m v′ n′ m′ e f g = λ i. Is (e i) (f i) (g i)
 
 -- The run from `at` on, of value v, ends before `end`.
 module _ (f : Form) (short : Short f) (text : List ℕ) (at end v : ℕ) (place : end ≡ at + length (leadingDigits 19 (drop at text))) (is : v ≡ value 10 (leadingDigits 19 (drop at text))) where
-  pub none-stands : (end < length text → ¬ (getD text end 0 ≡ dot)) → noPart ≡ foundOf at (partIn 0 (formOf f) (drop at text))
+  pub none-stands : (end < length text → ¬ (getD text end 0 ≡ dot)) → Wrong ≡ foundOf at (partIn 0 (formOf f) (drop at text))
   none-stands h =
       sym (ap (foundOf at) (part-refused f (drop at text) 0 λ ds a e. too-many f short ds (no-part-at 19 text at end place h ds e a)))
 
@@ -94,13 +94,13 @@ module _ (f : Form) (short : Short f) (text : List ℕ) (at end v : ℕ) (place 
       rw (n, first-byte text at, is) (zero-first f D (drop (length D) (drop at text)) (value 10 D) ∙ fitting-is f D)
 
   module _ (inside : end < length text) (dotted : getD text end 0 ≡ dot) where
-    pub stands-not : fitting (formOf f) (end - at) (eqb (getD text at 0) 48) v ≡ false → noPart ≡ foundOf at (partIn 0 (formOf f) (drop at text))
+    pub stands-not : fitting (formOf f) (end - at) (eqb (getD text at 0) 48) v ≡ false → Wrong ≡ foundOf at (partIn 0 (formOf f) (drop at text))
     stands-not h =
         let d = part-at 19 text at end place inside dotted in
         sym (ap (foundOf at) (part-refused f (drop at text) 0 λ ds a e. let q : ds ≡ leadingDigits 19 (drop at text) = cc (d .digits) in rw q (sym tested ∙ h)))
 
     pub stands : fitting (formOf f) (end - at) (eqb (getD text at 0) 48) v ≡ true
-        → record { right = true; value = v; digits = end - at; next = end + 1 } ≡ foundOf at (partIn 0 (formOf f) (drop at text))
+        → Is v (end - at) (end + 1) ≡ foundOf at (partIn 0 (formOf f) (drop at text))
     stands h =
         let d = part-at 19 text at end place inside dotted in
         same-part _ _ _ _ _ _ is (omega arith) (omega arith)

@@ -11,7 +11,10 @@ use Rattle.rules.specs.Schemes.{Form as RulesForm}
 use Rattle.text.specs.declared.parts.Form.{Form}
 use Rattle.text.specs.declared.parts.Form.the-variants.{Prefix, Digits, Integer}
 use Rattle.text.specs.declared.parts.Part.{Part}
+use Rattle.text.specs.declared.parts.Part.the-variants.{Wrong}
+use Rattle.text.specs.declared.parts.Part.the-variants.{Is as Found}
 use Rattle.text.specs.declared.parts.Last.{Last}
+use Rattle.text.specs.declared.parts.Last.the-variants.{Is, Refused}
 
 -- the rules' form; the bits of a part with a fixed number of digits play no part in its text
 abbrev pub formOf : Form → RulesForm
@@ -36,32 +39,26 @@ fitting (digits b k) n zero v = eqb n k
 fitting (integer b) n zero v = plainly n zero && ltb v (2 ^ b)
 fitting (string b) n zero v = false
 
-abbrev pub noPart : Part
-noPart = record { right = false; value = 0; digits = 0; next = 0 }
-
 -- what a part that stands at an index is in code
 abbrev pub foundOf : ℕ → Answer (List ℕ) → Part
-foundOf at (refused n) = noPart
-foundOf at (taken p) = record { right = true; value = value 10 p; digits = length p; next = at + length p + 1 }
-
-abbrev pub noLast : ℕ → Last
-noLast n = record { number = n; value = 0 }
+foundOf at (refused n) = Wrong
+foundOf at (taken p) = Found (value 10 p) (length p) (at + length p + 1)
 
 -- what a last part is in code
 abbrev pub lastOf : Answer (List ℕ) → Last
-lastOf (refused n) = noLast n
-lastOf (taken p) = record { number = 0; value = value 10 p }
+lastOf (refused n) = Refused n
+lastOf (taken p) = Is (value 10 p)
 
 -- an integer of more digits than are read, by the rest of it and its first digit
 abbrev pub longerOf : Bool → Bool → Last
-longerOf true true = noLast 7
-longerOf true false = noLast 8
-longerOf false zero = noLast 7
+longerOf true true = Refused 7
+longerOf true false = Refused 8
+longerOf false zero = Refused 7
 
 -- an integer by its number of digits, its first digit and its value: its form, then its size
 abbrev pub sizedOf : Bool → ℕ → Last
-sizedOf true v = record { number = 0; value = v }
-sizedOf false v = noLast 8
+sizedOf true v = Is v
+sizedOf false v = Refused 8
 
 abbrev pub shorterOf : ℕ → ℕ → Bool → ℕ → Last
-shorterOf b n zero v = cond (plainly n zero) (sizedOf (ltb v (2 ^ b)) v) (noLast 7)
+shorterOf b n zero v = cond (plainly n zero) (sizedOf (ltb v (2 ^ b)) v) (Refused 7)

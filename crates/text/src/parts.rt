@@ -7,7 +7,7 @@ ghost use lib.ListN.{length, drop};
 ghost use Rattle.rules.specs.Bytes.{all};
 ghost use Rattle.rules.specs.Schemes.{digits, integer};
 ghost use Rattle.rules.specs.TextNumbers.{isDigit, partIn, lastIn};
-ghost use Rattle.text.specs.Parts.{formOf, Short, plainly, fitting, noPart, foundOf, noLast, lastOf, longerOf, shorterOf};
+ghost use Rattle.text.specs.Parts.{formOf, Short, plainly, fitting, foundOf, lastOf, longerOf, shorterOf};
 
 // How a part is written: as a company prefix, with exactly so many digits, or as an integer of so many bits.
 pub enum Form {
@@ -16,12 +16,10 @@ pub enum Form {
     Integer(usize),
 }
 
-// A part that stands before a dot: its value, its digits, and where the text goes on behind the dot.
-pub struct Part {
-    pub right: bool,
-    pub value: u64,
-    pub digits: usize,
-    pub next: usize,
+// A part that stands before a dot: its value, how many digits it has, and where the text goes on behind the dot.
+pub enum Part {
+    Is(u64, usize, usize),
+    Wrong,
 }
 
 // Whether n digits, the first a zero or not, are `0` or begin with another digit.
@@ -65,17 +63,6 @@ fn fits(form: Form, n: usize, zero: bool, value: u64) -> bool
     }
 }
 
-fn no_part() -> Part
-    ensures { λ r. ⌜ r ≡ noPart ⌝ }
-{
-    Part {
-        right: false,
-        value: 0,
-        digits: 0,
-        next: 0,
-    }
-}
-
 // The part from index `at` up to the next dot.
 pub fn part_at(text: &[u8], at: usize, form: Form) -> Part
     requires { ⌜ (at ≤ length (now text)) × Short form ⌝ }
@@ -84,33 +71,22 @@ pub fn part_at(text: &[u8], at: usize, form: Form) -> Part
     let run = run_at(text, at);
     let end = run.end;
     if text.len() <= end {
-        return no_part();
+        return Part::Wrong;
     }
     if text[end] != b'.' {
-        return no_part();
+        return Part::Wrong;
     }
     let n = end - at;
     if fits(form, n, text[at] == b'0', run.value) {
-        return Part {
-            right: true,
-            value: run.value,
-            digits: n,
-            next: end + 1,
-        };
+        return Part::Is(run.value, n, end + 1);
     }
-    no_part()
+    Part::Wrong
 }
 
-// A last part: its value, or the number of the refusal.
-pub struct Last {
-    pub number: u8,
-    pub value: u64,
-}
-
-fn no_last(number: u8) -> Last
-    ensures { λ r. ⌜ r ≡ noLast number ⌝ }
-{
-    Last { number, value: 0 }
+// A last part: its value, or the number of its refusal.
+pub enum Last {
+    Is(u64),
+    Refused(u8),
 }
 
 // The last part as exactly n digits (table B's reference).
@@ -121,15 +97,12 @@ pub fn last_digits(text: &[u8], at: usize, n: usize) -> Last
     let run = run_at(text, at);
     let end = run.end;
     if end < text.len() {
-        return no_last(6);
+        return Last::Refused(6);
     }
     if end - at != n {
-        return no_last(6);
+        return Last::Refused(6);
     }
-    Last {
-        number: 0,
-        value: run.value,
-    }
+    Last::Is(run.value)
 }
 
 // An integer of more than nineteen digits, of which the first is read: too large, unless its form is wrong.
@@ -138,12 +111,12 @@ fn longer(text: &[u8], at: usize, zero: bool) -> Last
     ensures { λ r. ⌜ r ≡ longerOf (all isDigit (drop at (now (text .entry)))) zero ⌝ }
 {
     if !all_digits(text, at) {
-        return no_last(7);
+        return Last::Refused(7);
     }
     if zero {
-        return no_last(7);
+        return Last::Refused(7);
     }
-    no_last(8)
+    Last::Refused(8)
 }
 
 // An integer that is read to its end.
@@ -152,12 +125,12 @@ fn shorter(n: usize, zero: bool, value: u64, bits: usize) -> Last
     ensures { λ r. ⌜ r ≡ shorterOf bits n zero value ⌝ }
 {
     if !is_plain(n, zero) {
-        return no_last(7);
+        return Last::Refused(7);
     }
     if value >> bits == 0 {
-        return Last { number: 0, value };
+        return Last::Is(value);
     }
-    no_last(8)
+    Last::Refused(8)
 }
 
 // The last part as an integer: its form, over all of it, is judged before its size.
@@ -168,7 +141,7 @@ pub fn last_integer(text: &[u8], at: usize, bits: usize) -> Last
     let run = run_at(text, at);
     let end = run.end;
     if end == at {
-        return no_last(7);
+        return Last::Refused(7);
     }
     let zero = text[at] == b'0';
     if end < text.len() {

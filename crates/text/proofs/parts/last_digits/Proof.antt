@@ -1,5 +1,4 @@
 -- `last_digits` meets its contract: the run must reach the end and have n digits.
-use mathlib.Core.Path.{_∙_}
 use borrow.Author.Needs.{needs}
 use Rattle.text.proofs.Ends.{digits-behind, digits-other, digits-end}
 use Rattle.text.proofs.parts.last_digits.Statement.{statement}
@@ -7,15 +6,15 @@ use Rattle.text.proofs.parts.last_digits.Tie as tie
 
 returns : tie.Need-returns
 returns c =
-    let r = c .before .before .run-at in
-    let s = c .before .before .before .before in
-    c .no-last .ensures ∙ digits-behind (s .args .text .now) (s .args .at) (r .result .end) (r .result .value) (r .ensures .0) (r .ensures .1 .0) (s .args .n) (s .pre .1) (c .before .if1 .taken)
+    let r = c .before .run-at in
+    let s = c .before .before .before in
+    digits-behind (s .args .text .now) (s .args .at) (r .result .end) (r .result .value) (r .ensures .0) (r .ensures .1 .0) (s .args .n) (s .pre .1) (c .if1 .taken)
 
 returns-2 : tie.Need-returns-2
 returns-2 c =
-    let r = c .before .before .before .run-at in
-    let s = c .before .before .before .before .before in
-    c .no-last2 .ensures ∙ digits-other (s .args .text .now) (s .args .at) (r .result .end) (r .result .value) (r .ensures .0) (r .ensures .1 .0) (s .args .n) (c .before .before .if1 .left) (c .before .if2 .taken)
+    let r = c .before .before .run-at in
+    let s = c .before .before .before .before in
+    digits-other (s .args .text .now) (s .args .at) (r .result .end) (r .result .value) (r .ensures .0) (r .ensures .1 .0) (s .args .n) (c .before .if1 .left) (c .if2 .taken)
 
 returns-3 : tie.Need-returns-3
 returns-3 c =
@@ -24,13 +23,4 @@ returns-3 c =
     digits-end (s .args .text .now) (s .args .at) (r .result .end) (r .result .value) (r .ensures .0) (r .ensures .1 .0) (s .args .n) (c .before .if1 .left) (c .if2 .left)
 
 pub last-digits-spec : {M : Type 1} → statement M
-last-digits-spec =
-    tie.close
-    (tie.spec
-    (λ c κs. search needs)
-    (λ c κs. search needs)
-    returns
-    (λ c. search needs)
-    (λ c κs. search needs)
-    returns-2
-    returns-3)
+last-digits-spec = tie.close (tie.spec (λ c κs. search needs) returns (λ c. search needs) returns-2 returns-3)

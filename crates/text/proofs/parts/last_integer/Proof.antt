@@ -9,9 +9,9 @@ use Rattle.text.proofs.parts.last_integer.Tie as tie
 
 returns : tie.Need-returns
 returns c =
-    let r = c .before .before .run-at in
-    let s = c .before .before .before .before in
-    c .no-last .ensures ∙ integer-none (s .args .text .now) (s .args .at) (r .result .end) (r .result .value) (r .ensures .0) (r .ensures .1 .0) (s .args .bits) (c .before .if1 .taken)
+    let r = c .before .run-at in
+    let s = c .before .before .before in
+    integer-none (s .args .text .now) (s .args .at) (r .result .end) (r .result .value) (r .ensures .0) (r .ensures .1 .0) (s .args .bits) (c .if1 .taken)
 
 returns-2 : tie.Need-returns-2
 returns-2 c =
@@ -33,7 +33,6 @@ pub last-integer-spec : {M : Type 1} → statement M
 last-integer-spec =
     tie.close
     (tie.spec
-    (λ c κs. search needs)
     (λ c κs. search needs)
     returns
     (λ c. search needs)

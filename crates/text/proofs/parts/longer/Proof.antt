@@ -6,22 +6,13 @@ use Rattle.text.proofs.parts.longer.Statement.{statement}
 use Rattle.text.proofs.parts.longer.Tie as tie
 
 returns : tie.Need-returns
-returns c = rw (sym (c .before .before .all-digits .ensures) ∙ not-true _ (c .before .if1 .taken)) (c .no-last .ensures)
+returns c = rw (sym (c .before .all-digits .ensures) ∙ not-true _ (c .if1 .taken))
 
 returns-2 : tie.Need-returns-2
-returns-2 c = rw (sym (c .before .before .before .all-digits .ensures) ∙ not-false _ (c .before .before .if1 .left), c .before .if2 .taken) (c .no-last2 .ensures)
+returns-2 c = rw (sym (c .before .before .all-digits .ensures) ∙ not-false _ (c .before .if1 .left), c .if2 .taken)
 
 returns-3 : tie.Need-returns-3
-returns-3 c = rw (sym (c .before .before .before .all-digits .ensures) ∙ not-false _ (c .before .before .if1 .left), c .before .if2 .left) (c .no-last3 .ensures)
+returns-3 c = rw (sym (c .before .before .all-digits .ensures) ∙ not-false _ (c .before .if1 .left), c .if2 .left)
 
 pub longer-spec : {M : Type 1} → statement M
-longer-spec =
-    tie.close
-    (tie.spec
-    (λ c κs. search needs)
-    (λ c κs. search needs)
-    returns
-    (λ c κs. search needs)
-    returns-2
-    (λ c κs. search needs)
-    returns-3)
+longer-spec = tie.close (tie.spec (λ c κs. search needs) returns returns-2 returns-3)

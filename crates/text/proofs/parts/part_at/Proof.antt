@@ -1,5 +1,5 @@
 -- `part_at` meets its contract: the run of digits is the part exactly if a dot follows it and its numbers fit.
-use mathlib.Core.Path.{sym, _∙_}
+use mathlib.Core.Path.{_≡_, sym, _∙_}
 use native.Mathlib.Omega.{arith}
 use borrow.Author.Needs.{needs}
 use Rattle.text.proofs.Standing.{none-stands, stands-not, stands}
@@ -8,53 +8,48 @@ use Rattle.text.proofs.parts.part_at.Tie as tie
 
 returns : tie.Need-returns
 returns c =
-    let a = c .before .before in
-    let s = a .before .before in
+    let r = c .before .run-at in
+    let s = c .before .before .before in
     let x = s .args in
-    let r = a .run-at in
-    c .no-part .ensures ∙ none-stands (x .form) (s .pre .1) (x .text .now) (x .at) (r .result .end) (r .result .value) (r .ensures .0) (r .ensures .1 .0) (λ l. absurd (omega (arith, c .before .if1 .taken)))
+    none-stands (x .form) (s .pre .1) (x .text .now) (x .at) (r .result .end) (r .result .value) (r .ensures .0) (r .ensures .1 .0) (λ l. absurd (omega (arith, c .if1 .taken)))
 
 returns-2 : tie.Need-returns-2
 returns-2 c =
-    let a = c .before .before .before .before in
+    let a = c .before .before .before in
+    let r = a .run-at in
     let s = a .before .before in
     let x = s .args in
-    let r = a .run-at in
-    c .no-part2 .ensures ∙ none-stands (x .form) (s .pre .1) (x .text .now) (x .at) (r .result .end) (r .result .value) (r .ensures .0) (r .ensures .1 .0) (λ l. c .before .if2 .taken)
+    none-stands (x .form) (s .pre .1) (x .text .now) (x .at) (r .result .end) (r .result .value) (r .ensures .0) (r .ensures .1 .0) (λ l. c .if2 .taken)
 
 returns-3 : tie.Need-returns-3
 returns-3 c =
     let b = c .before .before .before in
     let a = b .before .before .before in
+    let r = a .run-at in
     let s = a .before .before in
     let x = s .args in
-    let r = a .run-at in
     stands (x .form) (s .pre .1) (x .text .now) (x .at) (r .result .end) (r .result .value) (r .ensures .0) (r .ensures .1 .0) (search needs) (b .if2 .left) (sym (c .before .fits2 .ensures) ∙ c .if3 .taken)
 
 returns-4 : tie.Need-returns-4
 returns-4 c =
-    let b = c .before .before .before .before in
+    let b = c .before .before .before in
     let a = b .before .before .before in
+    let r = a .run-at in
     let s = a .before .before in
     let x = s .args in
-    let r = a .run-at in
-    c .no-part3 .ensures
-    ∙ stands-not (x .form) (s .pre .1) (x .text .now) (x .at) (r .result .end) (r .result .value) (r .ensures .0) (r .ensures .1 .0) (search needs) (b .if2 .left) (sym (c .before .before .fits2 .ensures) ∙ c .before .if3 .left)
+    stands-not (x .form) (s .pre .1) (x .text .now) (x .at) (r .result .end) (r .result .value) (r .ensures .0) (r .ensures .1 .0) (search needs) (b .if2 .left) (sym (c .before .fits2 .ensures) ∙ c .if3 .left)
 
 pub part-at-spec : {M : Type 1} → statement M
 part-at-spec =
     tie.close
     (tie.spec
     (λ c κs. search needs)
-    (λ c κs. search needs)
     returns
     (λ c. search needs)
-    (λ c κs. search needs)
     returns-2
     (λ c. search needs)
     (λ c. search needs)
     (λ c κs. search needs)
     (λ c. search needs)
     returns-3
-    (λ c κs. search needs)
     returns-4)

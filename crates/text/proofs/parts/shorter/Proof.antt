@@ -7,18 +7,19 @@ use Rattle.text.proofs.parts.shorter.Statement.{statement}
 use Rattle.text.proofs.parts.shorter.Tie as tie
 
 returns : tie.Need-returns
-returns c = rw (sym (c .before .before .is-plain .ensures) ∙ not-true _ (c .before .if1 .taken)) (c .no-last .ensures)
+returns c = rw (sym (c .before .is-plain .ensures) ∙ not-true _ (c .if1 .taken))
 
 returns-2 : tie.Need-returns-2
 returns-2 c =
-    let x = c .before .before .before .args in
-    rw (sym (c .before .before .is-plain .ensures) ∙ not-false _ (c .before .if1 .left), sym (small (x .value) (x .bits)), eq-eqb _ 0 (c .if2 .taken))
+    let b = c .before .before in
+    let x = b .before .args in
+    rw (sym (b .is-plain .ensures) ∙ not-false _ (c .before .if1 .left), sym (small (x .value) (x .bits)), eq-eqb _ 0 (c .if2 .taken))
 
 returns-3 : tie.Need-returns-3
 returns-3 c =
-    let b = c .before .before .before in
+    let b = c .before .before in
     let x = b .before .args in
-    rw (sym (b .is-plain .ensures) ∙ not-false _ (c .before .before .if1 .left), sym (small (x .value) (x .bits)), ne-eqb _ 0 (c .before .if2 .left)) (c .no-last2 .ensures)
+    rw (sym (b .is-plain .ensures) ∙ not-false _ (c .before .if1 .left), sym (small (x .value) (x .bits)), ne-eqb _ 0 (c .if2 .left))
 
 pub shorter-spec : {M : Type 1} → statement M
-shorter-spec = tie.close (tie.spec (λ c κs. search needs) (λ c κs. search needs) returns (λ c. search needs) returns-2 (λ c κs. search needs) returns-3)
+shorter-spec = tie.close (tie.spec (λ c κs. search needs) returns (λ c. search needs) returns-2 returns-3)
