@@ -1,16 +1,21 @@
 -- The tables' numbers are small, and each line's parts are the rules' own.
 use Prim.Native.Nat.{ℕ, _≤_, _<_}
 use mathlib.Core.Path.{_≡_, refl}
+use mathlib.Core.List.{[], _∷_}
 use native.Mathlib.Omega.{arith}
+use denote.Enum.Declared.{tagOf}
+use types.Run.{OneOf, miss}
 use Rattle.rules.specs.declared.Scheme.{Scheme}
 use Rattle.rules.specs.declared.Scheme.the-variants.{Sgtin96, Sgtin198, Sscc96, Sgln96, Sgln195, Grai96, Grai170, Giai96, Gsrn96, Gsrnp96, Gdti96, Gdti174, Gid96}
 use Rattle.rules.specs.declared.Table.{Table}
 use Rattle.rules.specs.declared.Table.the-variants.{A, B, C, D}
-use Rattle.rules.specs.Schemes.{Row, row, rows, rowAt, cell, integer, referenceE, about}
+use Rattle.rules.specs.Schemes.{Row, row, rows, rowAt, cell, integer, string, referenceE, _then_, _zeros_, E, about}
 use Rattle.rules.proofs.Rows.{AllRows, by-row}
-use Rattle.scheme.specs.Lines.{partsOf, partsFor, Narrow}
+use Rattle.scheme.specs.Lines.{partsOf, partsFor, Tabled, Narrow}
 use Rattle.scheme.specs.Rows.{assetOf}
 use Rattle.scheme.specs.declared.lines.Parts.{Parts}
+use Rattle.scheme.specs.declared.lines.Parts.the-variants.{Integer, String, Zeros, Asset, Integers}
+use Rattle.scheme.proofs.lines.Parts.{the-type}
 
 -- a reference has at most eleven digits, and one of table E at most 62 bits
 few : (t : Table) → AllRows (λ P r. cell t r .1 ≤ 11) 0 rows
@@ -47,6 +52,14 @@ sound Gid96 = (refl, omega arith)
 
 pub asset-is : (r : Row) → referenceE r ≡ integer (assetOf r)
 asset-is (row p a b c d e) = refl
+
+-- parts that are not three integers have a partition table
+pub tabled : (p : Parts) → OneOf (0 ∷ 1 ∷ 2 ∷ 3 ∷ []) (tagOf the-type p) → Tabled p
+tabled (Integer t n) h = (t then integer n, refl)
+tabled (String t n) h = (t then string n, refl)
+tabled (Zeros t n) h = (t zeros n, refl)
+tabled Asset h = (E, refl)
+tabled (Integers a b c) h = absurd (miss (0 ∷ 1 ∷ 2 ∷ 3 ∷ []) 4 tt h)
 
 -- a scheme whose parts in code are p
 module _ (s : Scheme) (p : Parts) (e : p ≡ partsFor (about s .parts)) where

@@ -1,8 +1,9 @@
 -- A line of the schemes' table as the code holds it, and what a header names.
 use Prim.Native.Nat.{ℕ, _≤_}
+use mathlib.Core.Path.{_≡_}
 use mathlib.Core.Option.{Option, none, some}
 use Rattle.rules.specs.declared.Scheme.{Scheme}
-use Rattle.rules.specs.Schemes.{Form, prefix, digits, integer, string, Body, _then_, _zeros_, E, F, integers, schemes, about, words}
+use Rattle.rules.specs.Schemes.{prefix, digits, integer, string, Body, _then_, _zeros_, E, F, integers, schemes, about, words}
 use Rattle.rules.specs.Schemes.{Parts as RulesParts}
 use Rattle.rules.specs.BankNumbers.{headed}
 use Rattle.scheme.specs.declared.lines.Parts.{Parts}
@@ -28,6 +29,10 @@ partsFor (F (t then string n)) = String t n
 partsFor (F (t zeros n)) = Zeros t n
 partsFor (F E) = Asset
 partsFor (integers a b c) = Integers a b c
+
+-- they have a partition table
+abbrev pub Tabled : Parts → Type 0
+Tabled p = (body : Body) × (partsOf p ≡ F body)
 
 -- an integer is below 2 ^ 62, a string has at most twenty characters
 abbrev pub Narrow : Parts → Type 0

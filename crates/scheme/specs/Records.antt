@@ -4,7 +4,7 @@ use mathlib.Core.Path.{_≡_}
 use mathlib.Core.List.{List, [], _++_}
 use lib.ListN.{length, getD, take, replicate}
 use Rattle.numeral.specs.Numeral.{value}
-use Rattle.rules.specs.Schemes.{Form, prefix, digits, integer, string, Body, _then_, _zeros_, E, Parts, F, integers, about}
+use Rattle.rules.specs.Schemes.{Form, prefix, digits, integer, string, _then_, _zeros_, E, Parts, F, integers, about}
 use Rattle.rules.specs.declared.Scheme.the-variants.{Sgtin96}
 use Rattle.rules.specs.Answers.{Answer, refused, taken}
 use Rattle.rules.specs.Grammar.{Tag, Fits, layout}

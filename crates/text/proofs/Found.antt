@@ -1,7 +1,7 @@
 -- What the code's part, or last part, says of the rules'.
-use Prim.Native.Nat.{ℕ, suc, _+_, _≤_, _<_}
+use Prim.Native.Nat.{ℕ, suc, _+_, _≤_}
 use mathlib.Core.Path.{_≡_, refl, sym, ap, _∙_}
-use mathlib.Core.Bool.{Bool, true, false, _&&_}
+use mathlib.Core.Bool.{Bool, true, false}
 use mathlib.Core.List.{List, [], _∷_, _++_}
 use mathlib.Core.Logic.{⊎-elim, inl, inr, _⊎_}
 use mathlib.Core.Option.{Option, none, some}
@@ -11,10 +11,10 @@ use lib.Dec.{T}
 use lib.ListN.{length, drop, length-append, length-drop}
 use lib.Seq.{drop-drop}
 use Rattle.numeral.specs.Numeral.{value}
-use Rattle.rules.specs.Answers.{Answer, refused, taken, _>>=_, _>>_, demand, given}
+use Rattle.rules.specs.Answers.{Answer, refused, taken}
 use Rattle.rules.specs.Bytes.{among, upto, behind, dot, digitsText}
 use Rattle.rules.specs.Grammar.{shaped, sized}
-use Rattle.rules.specs.TextNumbers.{digitsIn, symbolsIn, kept, partIn, lastIn}
+use Rattle.rules.specs.TextNumbers.{digitsIn, partIn}
 use Rattle.rules.proofs.Tests.{both}
 use Rattle.rules.proofs.Runs.{run-is}
 use Rattle.rules.proofs.Decimals.{digits-is}

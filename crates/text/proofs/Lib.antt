@@ -8,3 +8,4 @@ pub mod Ends
 pub mod Starts
 pub mod Found
 pub mod Lasts
+pub mod Whole

@@ -1,18 +1,24 @@
 -- How a text begins, byte by byte.
-use Prim.Native.Nat.{ℕ, zero, suc, _+_, _≤_, _<_}
+use Prim.Native.Nat.{ℕ, _+_, _≤_, _<_}
 use mathlib.Core.Path.{_≡_, refl, sym, ap, _∙_}
-use mathlib.Core.Bool.{true, false, cond}
-use mathlib.Core.List.{List, [], _∷_, _++_}
+use mathlib.Core.Bool.{true, false}
+use mathlib.Core.List.{List, _++_}
 use mathlib.Core.Option.{Option, none, some}
 use native.Mathlib.Omega.{arith}
 use native.Mathlib.Numerals.{add-one}
-use lib.Dec.{eqb}
-use lib.ListN.{length, drop, getD, length-append}
-use lib.Seq.{drop-cons}
+use lib.ListN.{length, drop, getD, length-append, length-drop}
+use lib.Seq.{drop-cons, drop-at, drop-drop}
 use borrow.Author.Tests.{eq-eqb, ne-eqb}
-use Rattle.rules.specs.TextNumbers.{after}
+use Rattle.rules.specs.declared.Scheme.{Scheme}
+use Rattle.rules.specs.Schemes.{schemes}
+use Rattle.rules.specs.Grammar.{start, label, layout}
+use Rattle.rules.specs.TextNumbers.{after, Named, named, partsIn, tagOfText}
+use Rattle.scheme.specs.Records.{refusal, readingOf}
+use Rattle.text.specs.declared.names.Named.the-variants.{Is, Unlisted}
+use Rattle.text.specs.Names.{namedBy, namedAt}
+use Rattle.text.specs.Reading.{begun, readAs}
 use Rattle.rules.proofs.Answers.{Gives}
-use Rattle.rules.proofs.TextReads.{after-is}
+use Rattle.rules.proofs.TextReads.{after-is, named-is}
 
 -- a shorter text does not begin with s
 pub short : (s t : List ℕ) → length t < length s → after s t ≡ none
@@ -29,3 +35,52 @@ module _ (s t : List ℕ) (i : ℕ) (in-s : i < length s) (in-t : i < length t) 
 
   pub differs : ¬ (getD t i 0 ≡ getD s i 0) → after (drop i s) (drop i t) ≡ none
   differs n = rw (drop-cons s i 0 in-s, drop-cons t i 0 in-t, ne-eqb (getD s i 0) (getD t i 0) (λ e. n (sym e)))
+
+-- The whole text: its start, and the name behind it.
+pub twelve : length start ≡ 12
+unfolding start
+twelve = refl
+
+module _ (t : List ℕ) where
+  pub no-start : begun (after start t) ≡ false → refusal 2 ≡ readingOf (tagOfText t)
+  unfolding tagOfText
+  no-start e = go (after start t) refl e
+    where
+      go : (o : Option (List ℕ)) → after start t ≡ o → begun o ≡ false → refusal 2 ≡ readingOf (tagOfText t)
+      go none q h = rw q
+      go (some u) q h = let x : _≡_ {A = ℕ} 0 1 = cc in absurd (omega arith)
+
+  pub started : begun (after start t) ≡ true → (after start t ≡ some (drop 12 t)) × (12 ≤ length t)
+  started e = go (after start t) refl (after-is start t) e
+    where
+      go : (o : Option (List ℕ)) → after start t ≡ o → Gives (λ u. t ≡ start ++ u) o → begun o ≡ true → (after start t ≡ some (drop 12 t)) × (12 ≤ length t)
+      go none q h b = let x : _≡_ {A = ℕ} 0 1 = cc in absurd (omega arith)
+      go (some u) q h b =
+          (q ∙ ap some (sym (ap (drop 12) h ∙ drop-at start u 12 twelve)), omega (arith, ap length h, length-append start u, twelve))
+
+  module _ (begins : after start t ≡ some (drop 12 t)) (long : 12 ≤ length t) where
+    pub no-name : Unlisted ≡ namedAt 12 (drop 12 t) → refusal 3 ≡ readingOf (tagOfText t)
+    unfolding tagOfText namedAt
+    no-name e = go (named schemes (drop 12 t)) refl e
+      where
+        go : (o : Option Named) → named schemes (drop 12 t) ≡ o → Unlisted ≡ namedBy 12 o → refusal 3 ≡ readingOf (tagOfText t)
+        go none q h = rw (begins, q)
+        go (some c) q h = let x : _≡_ {A = ℕ} 0 1 = cc in absurd (omega arith)
+
+    pub name-is : (s : Scheme) (n : ℕ) → Is s n ≡ namedAt 12 (drop 12 t) → (named schemes (drop 12 t) ≡ some (record { scheme = s; rest = drop n t })) × (n ≤ length t)
+    unfolding namedAt
+    name-is s n e = go (named schemes (drop 12 t)) refl (named-is schemes (drop 12 t)) e
+      where
+        go : (o : Option Named) → named schemes (drop 12 t) ≡ o → Gives (λ c. drop 12 t ≡ label (c .scheme) ++ c .rest) o → Is s n ≡ namedBy 12 o
+            → (named schemes (drop 12 t) ≡ some (record { scheme = s; rest = drop n t })) × (n ≤ length t)
+        go none q h b = let x : _≡_ {A = ℕ} 0 1 = cc in absurd (omega arith)
+        go (some c) q h b =
+            let k = length (label (c .scheme)) in
+            let x : s ≡ c .scheme = cc in
+            let y : n ≡ 12 + k = cc in
+            let z : drop n t ≡ c .rest = ap (λ n. drop n t) y ∙ sym (drop-drop k 12 t) ∙ ap (drop k) h ∙ drop-at (label (c .scheme)) (c .rest) k refl in
+            (q ∙ (λ i. some (record { scheme = sym x i; rest = sym z i })), omega (arith, length-append (label (c .scheme)) (c .rest), ap length h, length-drop 12 t))
+
+    pub with-name : (s : Scheme) (v : List ℕ) → named schemes (drop 12 t) ≡ some (record { scheme = s; rest = v }) → readAs s (partsIn (layout s) v) ≡ readingOf (tagOfText t)
+    unfolding tagOfText
+    with-name s v e = rw (begins, e)

@@ -2,17 +2,17 @@
 use Prim.Native.Nat.{ℕ, _≤_}
 use mathlib.Core.Path.{_≡_}
 use mathlib.Core.Bool.{Bool, true, false}
-use mathlib.Core.List.{List, [], _∷_}
+use mathlib.Core.List.{List, []}
 use mathlib.Core.Option.{Option, none, some}
 use lib.ListN.{length}
 use Rattle.rules.specs.declared.Scheme.{Scheme}
 use Rattle.rules.specs.Answers.{Answer, refused, taken, _>>=_}
-use Rattle.rules.specs.Schemes.{Form, integer, Body, _then_, _zeros_, E, F, integers, about}
+use Rattle.rules.specs.Schemes.{Form, integer, _then_, _zeros_, E, F, integers, about}
 use Rattle.rules.specs.Schemes.{Parts as RulesParts}
-use Rattle.rules.specs.Grammar.{Layout, part, last, bodyLayout, layout, Tag}
-use Rattle.rules.specs.TextNumbers.{partsIn}
+use Rattle.rules.specs.Grammar.{Layout, part, last, bodyLayout}
 use Rattle.scheme.specs.declared.record.Reading.{Reading}
-use Rattle.scheme.specs.Lines.{partsOf}
+use Rattle.scheme.specs.declared.lines.Parts.{Parts}
+use Rattle.scheme.specs.Lines.{partsOf, partsFor, Tabled}
 use Rattle.scheme.specs.Records.{partAt, valueAt, lastNumber, lastCharacters, padded, refusal, readingOf}
 use Rattle.text.specs.declared.reading.Head.{Head}
 
@@ -66,3 +66,19 @@ restOf h (F (t then f)) = lastOf h f
 restOf h (F (t zeros z)) = aloneOf h
 restOf h (F E) = assetOf h
 restOf h (integers a b c) = lastOf h (integer c)
+
+-- a scheme's parts in code
+abbrev pub AreParts : Scheme → Parts → Type 0
+AreParts s p = p ≡ partsFor (about s .parts)
+
+-- three integers, the first of a bits
+abbrev pub Begins : Parts → ℕ → Type 0
+Begins p a = (b : ℕ) × (c : ℕ) × (partsOf p ≡ integers a b c)
+
+-- where there is a partition table, the digits of the company prefix pick a row of it
+abbrev pub Picked : Parts → ℕ → Type 0
+Picked p n = Tabled p → (6 ≤ n) × (n ≤ 12)
+
+-- what the parts of a scheme give
+abbrev pub readAs : Scheme → Answer (List (List ℕ)) → Reading
+readAs s a = readingOf (a >>= λ ps. taken (record { scheme = s; parts = ps }))

@@ -19,12 +19,12 @@ ghost use mathlib.Core.Path.{_≡_};
 ghost use Prim.Native.Nat.{_≤_};
 ghost use lib.ListN.{length, drop};
 ghost use Rattle.rules.specs.Schemes.{digits, integer, string, rowOf, cell};
-ghost use Rattle.rules.specs.Grammar.{last, start};
-ghost use Rattle.rules.specs.TextNumbers.{after, partsIn};
-ghost use Rattle.scheme.specs.Lines.{partsOf, Narrow};
+ghost use Rattle.rules.specs.Grammar.{last, layout, start};
+ghost use Rattle.rules.specs.TextNumbers.{after, partsIn, tagOfText};
+ghost use Rattle.scheme.specs.Lines.{partsOf, Tabled, Narrow};
 ghost use Rattle.scheme.specs.Records.{readingOf};
 ghost use Rattle.text.specs.Parts.{formOf, Short};
-ghost use Rattle.text.specs.Reading.{begun, taggedWith, lastOf, referred, aloneOf, assetOf, restOf, restLayout};
+ghost use Rattle.text.specs.Reading.{begun, taggedWith, lastOf, referred, aloneOf, assetOf, restOf, restLayout, Picked, Begins, AreParts, readAs};
 
 // Whether a text begins with `urn:epc:tag:`.
 fn begins(text: &[u8]) -> bool
@@ -133,9 +133,9 @@ fn reference_digits(t: Table, prefix: usize) -> usize
     rows::reference(t, rows::by_digits(prefix)).digits
 }
 
-// What follows the company prefix.
+// What follows the company prefix, or gid-96's first integer.
 fn body(text: &[u8], at: usize, head: Head, p: Parts) -> Reading
-    requires { ⌜ (at ≤ length (now text)) × (6 ≤ head .digits) × (head .digits ≤ 12) × Narrow p ⌝ }
+    requires { ⌜ (at ≤ length (now text)) × Narrow p × Picked p (head .digits) ⌝ }
     ensures { λ r. ⌜ r ≡ restOf head (partsOf p) (partsIn (restLayout (partsOf p) (head .digits)) (drop at (now (text .entry)))) ⌝ }
 {
     let digits = head.digits;
@@ -151,5 +151,67 @@ fn body(text: &[u8], at: usize, head: Head, p: Parts) -> Reading
         Parts::Zeros(t, _) => reference_alone(text, at, head, reference_digits(t, digits)),
         Parts::Asset => asset_alone(text, at, head, rows::asset(rows::by_digits(digits))),
         Parts::Integers(_, b, c) => with_integer(text, at, head, Form::Integer(b), c),
+    }
+}
+
+// gid-96: an integer of so many bits, and what follows it.
+fn general(text: &[u8], at: usize, s: Scheme, p: Parts, bits: usize) -> Reading
+    requires { ⌜ (at ≤ length (now text)) × AreParts s p × Begins p bits ⌝ }
+    ensures { λ r. ⌜ r ≡ readAs s (partsIn (layout s) (drop at (now (text .entry)))) ⌝ }
+{
+    let Part::Is(prefix, _, next) = part_at(text, at, Form::Integer(bits)) else {
+        return refused(5);
+    };
+    let head = Head {
+        scheme: s,
+        filter: 0,
+        prefix,
+        digits: 0,
+    };
+    body(text, next, head, p)
+}
+
+// The other schemes: the filter, the company prefix, and what follows it.
+fn partitioned(text: &[u8], at: usize, s: Scheme, p: Parts) -> Reading
+    requires { ⌜ (at ≤ length (now text)) × AreParts s p × Tabled p ⌝ }
+    ensures { λ r. ⌜ r ≡ readAs s (partsIn (layout s) (drop at (now (text .entry)))) ⌝ }
+{
+    let Part::Is(filter, _, behind) = part_at(text, at, Form::Integer(3)) else {
+        return refused(4);
+    };
+    let Part::Is(prefix, digits, next) = part_at(text, behind, Form::Prefix) else {
+        return refused(5);
+    };
+    let head = Head {
+        scheme: s,
+        filter,
+        prefix,
+        digits,
+    };
+    body(text, next, head, p)
+}
+
+// The parts of a scheme.
+fn parts_at(text: &[u8], at: usize, s: Scheme) -> Reading
+    requires { ⌜ at ≤ length (now text) ⌝ }
+    ensures { λ r. ⌜ r ≡ readAs s (partsIn (layout s) (drop at (now (text .entry)))) ⌝ }
+{
+    let p = about(s).parts;
+    match p {
+        Parts::Integers(bits, _, _) => general(text, at, s, p, bits),
+        _ => partitioned(text, at, s, p),
+    }
+}
+
+// A text: its start, its scheme's name, and its parts.
+pub fn read(text: &[u8]) -> Reading
+    ensures { λ r. ⌜ r ≡ readingOf (tagOfText (now (text .entry))) ⌝ }
+{
+    if !begins(text) {
+        return refused(2);
+    }
+    match name(text, 12) {
+        Named::Is(s, next) => parts_at(text, next, s),
+        Named::Unlisted => refused(3),
     }
 }

@@ -2,18 +2,17 @@
 use mathlib.Core.Path.{_≡_, sym, ap, _∙_}
 use mathlib.Core.Bool.{true}
 use mathlib.Core.List.{List}
-use Prim.Native.Nat.{ℕ, _+_, _-_, _≤_, _<_}
+use Prim.Native.Nat.{ℕ, _+_, _-_, _≤_}
 use native.Mathlib.Omega.{arith}
 use lib.ListN.{length, drop, getD, length-drop, drop-of-length-le}
 use lib.Seq.{drop-drop, getD-drop}
 use native.Mathlib.Nat.{add-zero}
 use borrow.Author.Needs.{needs}
 use borrow.Author.Tests.{not-true, not-false}
-use Rattle.numeral.specs.Numeral.{Digits}
 use Rattle.numeral.proofs.Values.{digits-of, digits-drop}
 use Rattle.rules.specs.Bytes.{colon}
 use Rattle.text.specs.Names.{Tailed, keyedBy}
-use Rattle.text.specs.declared.names.Keyed.the-variants.{By, Unkeyed}
+use Rattle.text.specs.declared.names.Keyed.the-variants.{By}
 use Rattle.text.proofs.Keys.{nothing, no-tail, no-key, other-letter, other-length, is-named}
 use Rattle.text.proofs.Runs.{run-shorter}
 use Rattle.text.proofs.names.name.Statement.{statement}

@@ -1,16 +1,14 @@
 -- `tail_at` meets its contract. The loop's invariant: n bytes are passed, none of them a colon, and v is the number that they are.
-use mathlib.Core.Path.{_≡_, sym, ap, _∙_}
-use Prim.Native.Nat.{ℕ, _+_, _-_, _*_, _^_, _≤_, _<_}
+use mathlib.Core.Path.{_≡_, sym}
+use Prim.Native.Nat.{_+_, _-_, _^_, _≤_, _<_}
 use native.Mathlib.Omega.{arith}
 use lib.Dec.{T}
-use lib.ListN.{length, take, drop, getD, length-drop}
-use lib.Seq.{getD-drop}
+use lib.ListN.{length, take, drop, getD}
 use borrow.Author.Needs.{needs}
-use Rattle.numeral.specs.Numeral.{value, Digits}
+use Rattle.numeral.specs.Numeral.{value}
 use Rattle.numeral.proofs.Values.{value-nil, digits-of, digits-drop}
 use Rattle.rules.specs.Bytes.{colon}
 use Rattle.rules.proofs.Runs.{without}
-use Rattle.text.proofs.Runs.{value-more}
 use Rattle.text.proofs.Tails.{seven-fit, next-value, found, at-the-end, more, too-long}
 use Rattle.text.proofs.names.tail_at.Statement.{statement}
 use Rattle.text.proofs.names.tail_at.Tie as tie

@@ -1,5 +1,5 @@
 -- `part_at` meets its contract: the run of digits is the part exactly if a dot follows it and its numbers fit.
-use mathlib.Core.Path.{_≡_, sym, _∙_}
+use mathlib.Core.Path.{sym, _∙_}
 use native.Mathlib.Omega.{arith}
 use borrow.Author.Needs.{needs}
 use Rattle.text.proofs.Standing.{none-stands, stands-not, stands}

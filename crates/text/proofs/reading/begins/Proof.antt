@@ -1,15 +1,15 @@
 -- `begins` meets its contract: the first i bytes agree, so the answer is that of the rest.
-use Prim.Native.Nat.{ℕ, _+_, _-_, _≤_, _<_}
+use Prim.Native.Nat.{_-_, _≤_}
 use mathlib.Core.Path.{_≡_, refl, sym, ap, _∙_}
 use mathlib.Core.List.{[]}
 use mathlib.Core.Option.{some}
 use native.Mathlib.Omega.{arith}
-use lib.ListN.{length, drop, getD}
+use lib.ListN.{length, drop}
 use borrow.Author.Needs.{needs}
 use Rattle.rules.specs.Grammar.{start}
 use Rattle.rules.specs.TextNumbers.{after}
 use Rattle.text.specs.Reading.{begun}
-use Rattle.text.proofs.Starts.{short, differs, agrees}
+use Rattle.text.proofs.Starts.{short, differs, agrees, twelve}
 use Rattle.text.proofs.reading.begins.Statement.{statement}
 use Rattle.text.proofs.reading.begins.Tie as tie
 
@@ -18,10 +18,6 @@ Inv-loop text s i₀ i = (i ≤ 12) × (12 ≤ length text) × (s ≡ start) × 
 
 abbrev μ-loop : tie.MeasureT-loop
 μ-loop text s i₀ i = 12 - i
-
-twelve : length start ≡ 12
-unfolding start
-twelve = refl
 
 nothing : drop 12 start ≡ []
 unfolding start

@@ -1,12 +1,11 @@
 -- `reference_digits` meets its contract: the prefix picks a row, whose reference has few digits.
-use Prim.Native.Nat.{_≤_, _<_}
-use mathlib.Core.Path.{_≡_, sym, ap, _∙_}
+use Prim.Native.Nat.{_<_}
+use mathlib.Core.Path.{ap, _∙_}
 use native.Mathlib.Omega.{arith}
 use borrow.Author.Needs.{needs}
 use Rattle.rules.specs.Schemes.{rowAt, cell}
 use Rattle.rules.proofs.Rows.{row-picked}
 use Rattle.scheme.proofs.Widths.{few-digits}
-use Rattle.scheme.specs.Rows.{referenceOf}
 use Rattle.text.proofs.reading.reference_digits.Statement.{statement}
 use Rattle.text.proofs.reading.reference_digits.Tie as tie
 

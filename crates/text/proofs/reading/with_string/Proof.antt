@@ -1,5 +1,5 @@
 -- `with_string` meets its contract: the reference stands before its dot, the string is the rest.
-use mathlib.Core.Path.{_≡_, sym, ap, _∙_}
+use mathlib.Core.Path.{sym, _∙_}
 use lib.ListN.{drop}
 use borrow.Author.Needs.{needs}
 use Rattle.rules.specs.Schemes.{digits, string}

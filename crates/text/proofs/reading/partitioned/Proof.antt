@@ -1,0 +1,101 @@
+-- `partitioned` meets its contract: the filter and the company prefix stand before their dots, and the rest is `body`.
+use Prim.Native.Nat.{_≤_}
+use mathlib.Core.Path.{sym, _∙_}
+use borrow.Author.Needs.{needs}
+use lib.Dec.{leb, leb→le}
+use lib.ListN.{length, drop}
+use Rattle.rules.specs.TextNumbers.{partsIn}
+use Rattle.rules.proofs.Tests.{both}
+use Rattle.scheme.proofs.Widths.{parts-same, parts-narrow}
+use Rattle.text.specs.declared.parts.Form.the-variants.{Prefix, Integer}
+use Rattle.text.specs.Reading.{restLayout, restOf}
+use Rattle.text.proofs.Found.{Standing, wrong, stands}
+use Rattle.text.proofs.Whole.{head, no-filter, no-prefix, with-prefix}
+use Rattle.text.proofs.reading.partitioned.Statement.{statement}
+use Rattle.text.proofs.reading.partitioned.Tie as tie
+
+returns : tie.Need-returns
+returns c =
+    let p = c .before .before .before in
+    let s = p .before .before in
+    let x = s .args in
+    let (body, e) = s .pre .2 in
+    c .refused .ensures
+    ∙ no-filter (x .s) body (sym (parts-same (x .s) (x .p) (s .pre .1)) ∙ e) (drop (x .at) (x .text .now)) (wrong 4 (Integer 3) (x .text .now) (x .at) (sym (c .before .enum-told .given .1) ∙ p .part-at .ensures))
+
+-- the filter and the company prefix, from the places where their names are
+filter : (c : tie.After-filter) → let x = c .before .before .before .before .args in
+    Standing 4 (Integer 3) (x .text .now) (x .at) (c .filter .given .0 .0) (c .filter .given .0 .1 .0) (c .filter .given .0 .1 .1 .0)
+filter c =
+    let p = c .before .before in
+    let x = p .before .before .args in
+    stands 4 (Integer 3) (x .text .now) (x .at) (c .filter .given .0 .0) (c .filter .given .0 .1 .0) (c .filter .given .0 .1 .1 .0) (sym (c .filter .given .1) ∙ p .part-at .ensures)
+
+prefix : (c : tie.After-prefix) → let v = c .before .before .before .before in
+    Standing 5 Prefix (v .before .before .before .before .args .text .now) (v .filter .given .0 .1 .1 .0) (c .prefix .given .0 .0) (c .prefix .given .0 .1 .0) (c .prefix .given .0 .1 .1 .0)
+prefix c =
+    let p = c .before .before in
+    let v = p .before .before in
+    stands 5 Prefix (v .before .before .before .before .args .text .now) (v .filter .given .0 .1 .1 .0) (c .prefix .given .0 .0) (c .prefix .given .0 .1 .0) (c .prefix .given .0 .1 .1 .0) (sym (c .prefix .given .1) ∙ p .part-at2 .ensures)
+
+behind : tie.Need-part-at-requires-2
+behind c κs = (filter (c .before) .within, tt)
+
+returns-2 : tie.Need-returns-2
+returns-2 c =
+    let p = c .before .before .before in
+    let v = p .before .before in
+    let s = v .before .before .before .before in
+    let x = s .args in
+    let (body, e) = s .pre .2 in
+    let f = filter v in
+    let next = v .filter .given .0 .1 .1 .0 in
+    c .refused2 .ensures
+    ∙ no-prefix (x .s) body (sym (parts-same (x .s) (x .p) (s .pre .1)) ∙ e) (drop (x .at) (x .text .now)) (f .part) (drop next (x .text .now)) (f .read) (f .rest)
+    (wrong 5 Prefix (x .text .now) next (sym (c .before .enum-told2 .given .1) ∙ p .part-at2 .ensures))
+
+-- six to twelve digits
+picked : (c : tie.After-prefix) → (6 ≤ c .prefix .given .0 .1 .0) × (c .prefix .given .0 .1 .0 ≤ 12)
+picked c =
+    let q = prefix c in
+    let n = length (q .part) in
+    let (l, u) = both (leb 6 n) (leb n 12) (q .shape) in
+    rw (q .digits-are) (leb→le 6 n l, leb→le n 12 u)
+
+inside : tie.Need-body-requires
+inside c κs =
+    let v = c .before in
+    let s = v .before .before .before .before .before .before .before .before in
+    (prefix v .within, parts-narrow (s .args .s) (s .args .p) (s .pre .1), λ t. picked v)
+
+returns-3 : tie.Need-returns-3
+returns-3 c =
+    let w = c .before .before in
+    let v = w .before .before .before .before in
+    let s = v .before .before .before .before in
+    let x = s .args in
+    let (body, e) = s .pre .2 in
+    let f = filter v in
+    let q = prefix w in
+    let text = x .text .now in
+    let next = w .prefix .given .0 .1 .1 .0 in
+    c .body .ensures
+    ∙ (λ i. restOf (head (x .s) (f .value-is i) (q .value-is i) (q .digits-are i)) (e i) (partsIn (restLayout (e i) (q .digits-are i)) (drop next text)))
+    ∙ with-prefix (x .s) body (sym (parts-same (x .s) (x .p) (s .pre .1)) ∙ e) (drop (x .at) text) (f .part) (drop (v .filter .given .0 .1 .1 .0) text) (f .read) (f .rest) (q .part) (drop next text) (q .read) (q .rest)
+
+pub partitioned-spec : {M : Type 1} → statement M
+partitioned-spec =
+    tie.close
+    (tie.spec
+    (λ c κs. search needs)
+    (λ c. search needs)
+    (λ c. search needs)
+    (λ c κs. search needs)
+    returns
+    behind
+    (λ c. search needs)
+    (λ c. search needs)
+    (λ c κs. search needs)
+    returns-2
+    inside
+    returns-3)
