@@ -107,6 +107,15 @@ annex =
     each "urn:epc:tag:gdti-174:3.9521141.98765.ABCDefgh012345678" (words11 0x5800_3E76451FD7039B061438997367D0C18B266D1AB66EE0) ∷
     each "urn:epc:tag:gid-96:952056.2718.1414" (words6 0x3000_3500E86F8000A9E000000586) ∷ []
 
-pub known-tags : (map gives rows1to14 ≡ map expected rows1to14) × (map gives annex ≡ map expected annex)
-unfolding rows1to14 annex gives expected words6 words11 words13 blank textToBank bankToText rawLine tagOfText tagOfBank rawOfBank rawText bankOf textOf gather value numeral spread sizeIn size shortest schemes rows tableA1 escaped start
-known-tags = (refl, refl)
+-- 001, section 12, lines 5537 and 5543: control bits and an AFI, without the control fields (document 01, "Raw line")
+unfoldable pub section12 : List Known
+section12 =
+    raw (words6 0x3601_1234567890ABCDEF01234567) "urn:epc:raw:96.x1234567890ABCDEF01234567" ∷
+    raw (words6 0x31C1_1234567890ABCDEF01234567) "urn:epc:raw:96.xC1.x1234567890ABCDEF01234567" ∷
+    bank (words6 0x3601_1234567890ABCDEF01234567) 12 ∷
+    bank (words6 0x31C1_1234567890ABCDEF01234567) 11 ∷
+    bank (words6 0x3000_1234567890ABCDEF01234567) 13 ∷ []
+
+pub known-tags : (map gives rows1to14 ≡ map expected rows1to14) × (map gives annex ≡ map expected annex) × (map gives section12 ≡ map expected section12)
+unfolding rows1to14 annex section12 gives expected words6 words11 words13 blank textToBank bankToText rawLine tagOfText tagOfBank rawOfBank rawText bankOf textOf gather value numeral spread sizeIn size shortest schemes rows tableA1 escaped start
+known-tags = (refl, refl, refl)
