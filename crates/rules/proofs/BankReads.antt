@@ -83,13 +83,13 @@ control-bits b h = field-more 2 (spread 2 8 b) 5 1 1 (omega (arith, length-sprea
 
 -- A bank that has its words: the code is its bits from 20h on.
 module _ (b : List ℕ) (long : bankSize (wordCount b) ≤ length b) where
-  code-bits : Digits 2 (codeIn b)
+  pub code-bits : Digits 2 (codeIn b)
   code-bits = digits-take 2 (16 * wordCount b) (drop 16 (spread 2 8 b)) (digits-drop 2 16 (spread 2 8 b) (digits-spread 2 8 b (lit< tt)))
 
-  code-length : length (codeIn b) ≡ 16 * wordCount b
+  pub code-length : length (codeIn b) ≡ 16 * wordCount b
   code-length = length-take-le (16 * wordCount b) (drop 16 (spread 2 8 b)) (rw length-drop (omega (arith, length-spread 2 8 b)))
 
-  code-seen : (p n : ℕ) → p + n ≤ 16 * wordCount b → at b (0x20 + p) n ≡ value 2 (take n (drop p (codeIn b)))
+  pub code-seen : (p n : ℕ) → p + n ≤ 16 * wordCount b → at b (0x20 + p) n ≡ value 2 (take n (drop p (codeIn b)))
   code-seen p n h =
       let e : 0x20 + p - 0x10 ≡ 16 + p = omega arith in
       rw (e, take-inside p n (16 * wordCount b) (drop 16 (spread 2 8 b)) h, drop-drop p 16 (spread 2 8 b))

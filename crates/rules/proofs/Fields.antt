@@ -44,7 +44,7 @@ all-seven : T (all sevenBits tableA1)
 unfolding tableA1
 all-seven = tt
 
-characters-are : (cs : List ℕ) → T (all character cs) → T (all nonzero cs) × Digits (2 ^ 7) cs
+pub characters-are : (cs : List ℕ) → T (all character cs) → T (all nonzero cs) × Digits (2 ^ 7) cs
 characters-are [] h = (tt, tt)
 characters-are (c ∷ cs) h =
     let (a, b) = both (character c) (all character cs) h in

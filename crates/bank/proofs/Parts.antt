@@ -1,0 +1,117 @@
+-- The parts of a scheme with a partition table: refused by rule 18 or 19, or taken, in the numbers that stand at their code bits.
+use Prim.Native.Nat.{ℕ, _+_, _*_, _/_, _^_, _≤_, _<_}
+use mathlib.Core.Path.{_≡_, refl, sym, ap, _∙_}
+use mathlib.Core.List.{List, [], _∷_}
+use native.Mathlib.Nat.{add-zero}
+use native.Mathlib.Omega.{arith}
+use lib.Dec.{ltb}
+use lib.ListN.{length, take, drop}
+use lib.Seq.{drop-drop}
+use borrow.Author.Tests.{lt-ltb, le-ltb}
+use Rattle.numeral.specs.Numeral.{value, numeral, shortest, spread, gather}
+use Rattle.numeral.proofs.Values.{value-nil}
+use Rattle.rules.specs.Answers.{Answer, refused, taken, _>>=_, _>>_, demand}
+use Rattle.rules.specs.declared.Table.{Table}
+use Rattle.rules.specs.Schemes.{integer, string, reference as digitsOf, referenceE, Row, row, F, _then_, _zeros_, E, cell, rowAt, rowOf, prefixBits, prefixDigits}
+use Rattle.rules.specs.Grammar.{laid, bodyLayout}
+use Rattle.rules.specs.Coding.{wordCount, bankSize}
+use Rattle.rules.specs.Conditions.{partitionIn, rowIn}
+use Rattle.rules.specs.BankNumbers.{field, fieldIn, fieldsIn, stringIn, codeIn}
+use Rattle.rules.proofs.Rows.{row-fair}
+use Rattle.rules.proofs.CodeReads.{take-inside}
+use Rattle.rules.proofs.BankReads.{code-seen}
+use Rattle.scheme.specs.declared.lines.Parts.{Parts}
+use Rattle.scheme.specs.declared.lines.Parts.the-variants.{Integer, String, Zeros, Asset, Integers}
+use Rattle.scheme.specs.Lines.{partsOf}
+use Rattle.scheme.specs.Rows.{assetOf}
+use Rattle.bank.specs.Reader.{codeField}
+use Rattle.bank.specs.Reading.{Tabled, shapeOf, groupsAt}
+use Rattle.bank.proofs.Sizes.{Roomy, Widths}
+use Rattle.bank.proofs.Numbers.{decimal-at, small-prefix}
+
+-- the groups of a string that begins at code bit c
+groups-seen : (b : List ℕ) (c n : ℕ) → n ≡ 7 * (n / 7) → c + n ≤ 16 * wordCount b → gather 2 7 (n / 7) (take n (drop c (codeIn b))) ≡ groupsAt b c (n / 7)
+groups-seen b c n e h = rw (take-inside c n (16 * wordCount b) (drop 16 (spread 2 8 b)) h, drop-drop c 16 (spread 2 8 b), ← e)
+
+pub no-bits : (b : List ℕ) (c : ℕ) → codeField b c 0 ≡ 0
+no-bits b c = value-nil 2
+
+-- a string behind three parts
+at-last : (x y z : List ℕ) (n : ℕ) (l : List ℕ) (a : Answer (List ℕ))
+    → ((((a >>= λ cs. taken (field cs n l)) >>= λ c. taken (c .symbols ∷ [])) >>= λ ps. taken (z ∷ ps)) >>= λ ps. taken (x ∷ y ∷ ps)) ≡ (a >>= λ cs. taken (x ∷ y ∷ z ∷ cs ∷ []))
+at-last x y z n l (refused m) = refl
+at-last x y z n l (taken cs) = refl
+
+asset-is : (r : Row) → referenceE r ≡ integer (assetOf r)
+asset-is (row p a b c d e) = refl
+
+-- no three integers have a partition table
+pub not-three : {x y z : ℕ} → Tabled (Integers x y z) → ⊥
+not-three f = let e : _≡_ {A = ℕ} 0 1 = cc (f .1) in omega arith
+
+-- The code bit of the reference.
+abbrev pub start : List ℕ → ℕ
+start b = 14 + prefixBits (rowIn b)
+
+-- The reference of table t, and the code bit behind it.
+abbrev pub reference : List ℕ → Table → ℕ
+reference b t = codeField b (start b) (cell t (rowIn b) .0)
+
+abbrev pub behind : List ℕ → Table → ℕ
+behind b t = start b + cell t (rowIn b) .0
+
+-- The parts behind the company prefix, where a string is the characters cs.
+abbrev pub shown : List ℕ → Parts → List ℕ → List (List ℕ)
+shown b (Integer t n) cs = numeral 10 (cell t (rowIn b) .1) (reference b t) ∷ shortest 10 (codeField b (behind b t) n) ∷ []
+shown b (String t n) cs = numeral 10 (cell t (rowIn b) .1) (reference b t) ∷ cs ∷ []
+shown b (Zeros t n) cs = numeral 10 (cell t (rowIn b) .1) (reference b t) ∷ []
+shown b Asset cs = shortest 10 (codeField b (start b) (assetOf (rowIn b))) ∷ []
+shown b (Integers x y z) cs = []
+
+-- What is read of all parts, once the string is read.
+abbrev pub answered : List ℕ → Parts → Answer (List ℕ) → Answer (List (List ℕ))
+answered b p a = a >>= λ cs. taken (shortest 10 (codeField b 8 3) ∷ numeral 10 (prefixDigits (rowIn b)) (codeField b 14 (prefixBits (rowIn b))) ∷ shown b p cs)
+
+abbrev pub stringOf : List ℕ → Parts → Answer (List ℕ)
+stringOf b (Integer t n) = taken []
+stringOf b (String t n) = stringIn (groupsAt b (behind b t) (n / 7))
+stringOf b (Zeros t n) = taken []
+stringOf b Asset = taken []
+stringOf b (Integers x y z) = taken []
+
+module _ (b : List ℕ) (long : bankSize (wordCount b) ≤ length b) (row : partitionIn b < 7) (small : codeField b 14 (prefixBits (rowIn b)) < 10 ^ prefixDigits (rowIn b)) where
+  -- the digits of the prefix pick the row
+  picked : rowOf (prefixDigits (rowIn b)) ≡ rowIn b
+  picked = ap rowAt (row-fair (partitionIn b) row .picked)
+
+  module _ (t : Table) (inside : behind b t ≤ 16 * wordCount b) where
+    cell-at : fieldIn (digitsOf t (rowOf (prefixDigits (rowIn b)))) (drop (start b) (codeIn b))
+        ≡ (demand (ltb (reference b t) (10 ^ cell t (rowIn b) .1)) 18 >> taken (record { symbols = numeral 10 (cell t (rowIn b) .1) (reference b t); rest = drop (behind b t) (codeIn b) }))
+    cell-at = rw picked (decimal-at b long (start b) (cell t (rowIn b) .0) inside 18 (cell t (rowIn b) .1))
+
+    cell-large : 10 ^ cell t (rowIn b) .1 ≤ reference b t → fieldIn (digitsOf t (rowOf (prefixDigits (rowIn b)))) (drop (start b) (codeIn b)) ≡ refused 18
+    cell-large h = cell-at ∙ rw (le-ltb (reference b t) (10 ^ cell t (rowIn b) .1) h)
+
+    cell-small : reference b t < 10 ^ cell t (rowIn b) .1
+        → fieldIn (digitsOf t (rowOf (prefixDigits (rowIn b)))) (drop (start b) (codeIn b)) ≡ taken (record { symbols = numeral 10 (cell t (rowIn b) .1) (reference b t); rest = drop (behind b t) (codeIn b) })
+    cell-small h = cell-at ∙ rw (lt-ltb (reference b t) (10 ^ cell t (rowIn b) .1) h)
+
+  pub large-reference : (p : Parts) → Tabled p → Roomy (wordCount b) (rowIn b) (shapeOf p (rowIn b))
+      → 10 ^ shapeOf p (rowIn b) .cell .digits ≤ codeField b (start b) (shapeOf p (rowIn b) .cell .bits) → fieldsIn (laid (partsOf p)) (drop 8 (codeIn b)) ≡ refused 18
+  large-reference (Integer t n) f r h = small-prefix b long (t then integer n) (omega arith) (omega arith) small ∙ rw (cell-large t (omega arith) h)
+  large-reference (String t n) f r h = small-prefix b long (t then string n) (omega arith) (omega arith) small ∙ rw (cell-large t (omega arith) h)
+  large-reference (Zeros t n) f r h = small-prefix b long (t zeros n) (omega arith) (omega arith) small ∙ rw (cell-large t (omega arith) h)
+  large-reference Asset f r h = absurd (omega (arith, no-bits b (start b)))
+  large-reference (Integers x y z) f r h = absurd (not-three f)
+
+  pub small-reference : (p : Parts) → Tabled p → Roomy (wordCount b) (rowIn b) (shapeOf p (rowIn b)) → Widths (wordCount b) p
+      → codeField b (start b) (shapeOf p (rowIn b) .cell .bits) < 10 ^ shapeOf p (rowIn b) .cell .digits → fieldsIn (laid (partsOf p)) (drop 8 (codeIn b)) ≡ answered b p (stringOf b p)
+  small-reference (Integer t n) f r w h =
+      small-prefix b long (t then integer n) (omega arith) (omega arith) small ∙ rw (cell-small t (omega arith) h, ← code-seen b long (behind b t) n (omega arith))
+  small-reference (String t n) f r w h =
+      small-prefix b long (t then string n) (omega arith) (omega arith) small
+      ∙ rw (cell-small t (omega arith) h, groups-seen b (behind b t) n (w .0) (omega arith)) (at-last _ _ _ n (drop (behind b t) (codeIn b)) (stringIn (groupsAt b (behind b t) (n / 7))))
+  small-reference (Zeros t n) f r w h = small-prefix b long (t zeros n) (omega arith) (omega arith) small ∙ rw (cell-small t (omega arith) h)
+  small-reference Asset f r w h =
+      small-prefix b long E (omega arith) (omega arith) small ∙ rw (picked, asset-is (rowIn b), ← code-seen b long (start b) (assetOf (rowIn b)) (omega arith))
+  small-reference (Integers x y z) f r w h = absurd (not-three f)
