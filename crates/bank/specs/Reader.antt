@@ -3,7 +3,6 @@ use Prim.Native.Nat.{ℕ, _+_, _*_, _≤_}
 use mathlib.Core.List.{List}
 use denote.Ref.{RefT, now}
 use Rattle.rules.specs.Coding.{at}
-use Rattle.scheme.specs.Counts.{addressOf}
 use Rattle.scheme.specs.declared.counts.CodeBit.{CodeBit}
 use Rattle.bank.specs.declared.reader.Step.{Step}
 use Rattle.bank.specs.declared.reader.BitReader.{BitReader}

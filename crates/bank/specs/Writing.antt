@@ -1,29 +1,17 @@
--- For callers of the writer: the bank of a record's tag. Between the writers inside: the limits and the bits of the record's fields.
+-- Between the writers of a bank: the limits and the bits of the record's fields.
 use Prim.Native.Nat.{ℕ, _+_, _*_, _/_, _^_, _≤_, _<_}
-use mathlib.Core.Path.{_≡_}
 use mathlib.Core.List.{List, _++_}
-use lib.ListN.{length, take, drop}
+use lib.ListN.{take}
 use Rattle.numeral.specs.Numeral.{Digits, spread}
 use Rattle.rules.specs.declared.Table.{Table}
 use Rattle.rules.specs.Schemes.{cell, partition, prefixBits, rowOf}
-use Rattle.rules.specs.Grammar.{Tag}
-use Rattle.rules.specs.Coding.{binary, bankOf}
+use Rattle.rules.specs.Coding.{binary}
 use Rattle.bits.specs.declared.Stream.{Stream}
 use Rattle.bits.specs.Streams.{Sound}
 use Rattle.scheme.specs.declared.lines.Parts.{Parts}
 use Rattle.scheme.specs.declared.lines.Parts.the-variants.{Integer, String, Zeros, Asset, Integers}
 use Rattle.scheme.specs.declared.record.Record.{Record}
-use Rattle.scheme.specs.Records.{RecordIs}
 use Rattle.scheme.specs.Rows.{assetOf}
-
--- r is the record of some tag
-pub record HasTag (r : Record) : Type 0 where
-  pub tag : Tag
-  pub is : RecordIs r tag
-
--- n is the length of the bank of r's tag, and that bank stands in `after` in front of what `before` has behind its length
-abbrev pub Writes : Record → List ℕ → ℕ → List ℕ → Type 0
-Writes r before n after = (τ : Tag) → RecordIs r τ → (n ≡ length (bankOf τ)) × (after ≡ bankOf τ ++ drop (length (bankOf τ)) before)
 
 -- the filter is one digit 0 to 7, and the company prefix has 6 to 12 digits
 pub record Company (r : Record) : Type 0 where

@@ -10,7 +10,9 @@ ghost use Prim.Native.Nat.{_≤_};
 ghost use lib.ListN.{length, take};
 ghost use Rattle.numeral.specs.Numeral.{spread};
 ghost use Rattle.bits.specs.Streams.{waiting, Streamed};
-ghost use Rattle.bank.specs.Writing.{HasTag, Writes, Company, companyBits, Reference, referenceBits, Keeps, packed, TakesString};
+ghost use Rattle.rules.specs.Coding.{bankOf};
+ghost use Rattle.scheme.specs.Records.{HasTag, Writes};
+ghost use Rattle.bank.specs.Writing.{Company, companyBits, Reference, referenceBits, Keeps, packed, TakesString};
 
 // The filter, the partition value and the company prefix, from byte 3 on: behind the control word and the header.
 fn put_company(tag: Record, out: &mut [u8]) -> Stream
@@ -102,7 +104,7 @@ fn put_parts(tag: Record, parts: Parts, out: &mut [u8]) -> Stream
 pub fn write(tag: Record, out: &mut [u8]) -> usize
     requires { ⌜ 64 ≤ length (now out) ⌝ }
     requires { ⌜ HasTag tag ⌝ }
-    ensures { λ n. ⌜ Writes tag (now (out .entry)) n (now (out .exit)) ⌝ }
+    ensures { λ n. ⌜ Writes bankOf tag (now (out .entry)) n (now (out .exit)) ⌝ }
 {
     let s = tag.scheme;
     let line = lines::about(s);

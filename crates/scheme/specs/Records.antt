@@ -2,7 +2,7 @@
 use Prim.Native.Nat.{ℕ}
 use mathlib.Core.Path.{_≡_}
 use mathlib.Core.List.{List, [], _++_}
-use lib.ListN.{length, getD, take, replicate}
+use lib.ListN.{length, getD, take, drop, replicate}
 use Rattle.numeral.specs.Numeral.{value}
 use Rattle.rules.specs.Schemes.{Form, prefix, digits, integer, string, _then_, _zeros_, E, Parts, F, integers, about}
 use Rattle.rules.specs.declared.Scheme.the-variants.{Sgtin96}
@@ -85,6 +85,15 @@ recordOf τ =
 pub record RecordIs (r : Record) (τ : Tag) : Type 0 where
   pub fits : Fits (layout (τ .scheme)) (τ .parts)
   pub same : r ≡ recordOf τ
+
+-- r is the record of a tag
+pub record HasTag (r : Record) : Type 0 where
+  pub tag : Tag
+  pub is : RecordIs r tag
+
+-- writing r's tag in this form gives n, its length, and leaves it in front of what the output had behind that length
+abbrev pub Writes : (Tag → List ℕ) → Record → List ℕ → ℕ → List ℕ → Type 0
+Writes form r out n after = (τ : Tag) → RecordIs r τ → (n ≡ length (form τ)) × (after ≡ form τ ++ drop (length (form τ)) out)
 
 -- a blank record, for a refusal
 abbrev pub blank : Record

@@ -1,0 +1,3 @@
+-- How a call's answer follows from what is read and what is written.
+pub mod Ends
+pub mod RawAnswers

@@ -1,0 +1,23 @@
+-- What an answer says: document 01's number and length, and with the output the call of the written rules.
+use Prim.Native.Nat.{ℕ}
+use mathlib.Core.List.{List}
+use mathlib.Core.Bool.{cond}
+use lib.Dec.{eqb}
+use Rattle.rules.specs.Calls.{Call}
+use Rattle.codec.specs.declared.Answer.{Answer}
+use Rattle.codec.specs.declared.Answer.the-variants.{Written, Refused}
+
+abbrev pub numberOf : Answer → ℕ
+numberOf (Written n) = 0
+numberOf (Refused n) = n
+
+abbrev pub lengthOf : Answer → ℕ
+lengthOf (Written n) = n
+lengthOf (Refused n) = 0
+
+abbrev pub answered : Answer → List ℕ → Call
+answered r out = record { number = numberOf r; written = lengthOf r; output = out }
+
+-- which of the two lent texts the line on the screen is a part of, from its start
+abbrev pub chosen : {A : Type 0} → ℕ → A → A → A
+chosen n tag raw = cond (eqb n 0) tag raw

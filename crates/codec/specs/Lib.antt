@@ -1,0 +1,2 @@
+-- The answers of the public calls.
+pub mod Answers

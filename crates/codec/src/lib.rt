@@ -1,0 +1,66 @@
+// The four public calls of document 01. Any text and any bank may come in: none has a condition, and each fixes its answer and every
+// byte of the lent output. All is read before anything is written.
+ghost use mathlib.Core.Path.{_≡_};
+ghost use Rattle.rules.specs.Calls.{textToBank, bankToText, rawLine};
+ghost use Rattle.rules.specs.Screen.{screen as screenOf};
+ghost use Rattle.codec.specs.Answers.{answered, chosen};
+
+// What a call gives: accepted with the length written, or refused with a number ("Numbers given, and when").
+pub enum Answer {
+    Written(usize),
+    Refused(u8),
+}
+
+// Text to bank: numbers 1 to 8. The bank is written from the output's start on.
+pub fn text_to_bank(text: &[u8], out: &mut [u8]) -> Answer
+    ensures { λ r. ⌜ answered r (now (out .exit)) ≡ textToBank (now (text .entry)) (now (out .entry)) ⌝ }
+{
+    if out.len() < 64 {
+        return Answer::Refused(1);
+    }
+    let reading = text::reading::read(text);
+    let number = reading.number;
+    if number != 0 {
+        return Answer::Refused(number);
+    }
+    let tag = reading.tag;
+    Answer::Written(bank::writing::write(tag, out))
+}
+
+// The raw line of a bank: numbers 1, 9 and 10.
+pub fn raw_line(bank: &[u8], out: &mut [u8]) -> Answer
+    ensures { λ r. ⌜ answered r (now (out .exit)) ≡ rawLine (now (bank .entry)) (now (out .entry)) ⌝ }
+{
+    if out.len() < 160 {
+        return Answer::Refused(1);
+    }
+    if bank.len() < 2 {
+        return Answer::Refused(9);
+    }
+    let words = bank::raw::words(bank);
+    if bank.len() < 2 + 2 * words {
+        return Answer::Refused(9);
+    }
+    if words == 0 {
+        return Answer::Refused(10);
+    }
+    Answer::Written(bank::raw::write(bank, out))
+}
+
+// The line on the screen ("Screen"): all of the tag text for 0, all of the raw text for 11 to 19, the raw text's empty start for every
+// other number. It is that part of that text itself, no copy.
+pub fn screen<'a>(tag: &'a [u8], raw: &'a [u8], number: u8) -> &'a [u8]
+    ensures shown { λ r. ⌜ now r ≡ screenOf (now (tag .entry)) (now (raw .entry)) number ⌝ }
+    ensures part { λ r. ⌜ r .ptr ≡ chosen number (tag .entry .ptr) (raw .entry .ptr) ⌝ }
+{
+    if number == 0 {
+        return tag;
+    }
+    if number < 11 {
+        return &raw[..0];
+    }
+    if 19 < number {
+        return &raw[..0];
+    }
+    raw
+}
