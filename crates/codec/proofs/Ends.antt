@@ -5,13 +5,13 @@ use mathlib.Core.List.{List, _++_}
 use native.Mathlib.Omega.{arith}
 use lib.ListN.{length, drop}
 use borrow.Author.Tests.{le-leb, lt-leb}
-use Rattle.rules.specs.Answers.{Answer, refused, taken}
+use Rattle.rules.specs.Answers.{Answer, refused, taken, _>>=_}
 use Rattle.rules.specs.Conditions.{Rule}
 use Rattle.rules.proofs.Answers.{Reads}
-use Rattle.rules.specs.Grammar.{Tag}
+use Rattle.rules.specs.Grammar.{Tag, Fits, layout}
 use Rattle.rules.specs.Calls.{call, lent}
 use Rattle.scheme.specs.declared.record.Reading.{Reading}
-use Rattle.scheme.specs.Records.{recordOf, readingOf}
+use Rattle.scheme.specs.Records.{RecordIs, Writes, readingOf}
 use Rattle.codec.specs.Answers.{answered}
 use Rattle.codec.specs.declared.Answer.the-variants.{Written, Refused}
 
@@ -38,18 +38,24 @@ module _ (rs : List Rule) (Right : Tag → Type 0) where
   right (refused m) τ h e = let x : _≡_ {A = ℕ} 0 1 = cc in absurd (omega arith)
   right (taken σ) τ h e = let x : σ ≡ τ = cc in rw (sym x) (h .1)
 
--- what a reading's number says
-module _ (a : Answer Tag) (r : Reading) (is : r ≡ readingOf a) where
-  pub read-refused : ¬ (r .number ≡ 0) → a ≡ refused (r .number)
-  read-refused n = go a is
+-- A reading of a tag that is then written in another form.
+module _ (room : ℕ) (form : Tag → List ℕ) (out : List ℕ) (l : room ≤ length out) (a : Answer Tag) (r : Reading) (is : r ≡ readingOf a) where
+  pub read-refused : ¬ (r .number ≡ 0) → answered (Refused (r .number)) out ≡ call out (lent room out (a >>= λ τ. taken (form τ)))
+  read-refused n = refuses room out l (r .number) (a >>= λ τ. taken (form τ)) (ap (_>>= λ τ. taken (form τ)) (go a is))
     where
       go : (a : Answer Tag) → r ≡ readingOf a → a ≡ refused (r .number)
       go (refused m) e = sym (ap (λ x. refused (x .number)) e)
       go (taken τ) e = absurd (n (ap (λ x. x .number) e))
 
-  pub read-taken : (rs : List Rule) (Right : Tag → Type 0) → Reads rs Right a → r .number ≡ 0 → (τ : Tag) × (a ≡ taken τ) × (r .tag ≡ recordOf τ) × Right τ
-  read-taken rs Right h z = go a refl is
-    where
-      go : (b : Answer Tag) → a ≡ b → r ≡ readingOf b → (τ : Tag) × (a ≡ taken τ) × (r .tag ≡ recordOf τ) × Right τ
-      go (refused m) q e = absurd (omega (arith, positive rs Right a h m q, ap (λ x. x .number) e))
-      go (taken τ) q e = (τ, q, ap (λ x. x .tag) e, right rs Right a τ h q)
+  pub read-written : (τ : Tag) → a ≡ taken τ → RecordIs (r .tag) τ → (n : ℕ) (after : List ℕ) → Writes form (r .tag) out n after
+      → answered (Written n) after ≡ call out (lent room out (a >>= λ τ. taken (form τ)))
+  read-written τ e i n after h = let (x, y) = h τ i in writes room out l (form τ) (a >>= λ τ. taken (form τ)) (ap (_>>= λ τ. taken (form τ)) e) n after x y
+
+-- number 0: the record is that of the tag that is taken
+pub read-taken : (rs : List Rule) (Right : Tag → Type 0) → ((τ : Tag) → Right τ → Fits (layout (τ .scheme)) (τ .parts))
+    → (a : Answer Tag) → Reads rs Right a → (r : Reading) → r ≡ readingOf a → r .number ≡ 0 → (τ : Tag) × (a ≡ taken τ) × RecordIs (r .tag) τ
+read-taken rs Right fits a h r is z = go a refl is
+  where
+    go : (b : Answer Tag) → a ≡ b → r ≡ readingOf b → (τ : Tag) × (a ≡ taken τ) × RecordIs (r .tag) τ
+    go (refused m) q e = absurd (omega (arith, positive rs Right a h m q, ap (λ x. x .number) e))
+    go (taken τ) q e = (τ, q, record { fits = fits τ (right rs Right a τ h q); same = ap (λ x. x .tag) e })

@@ -27,6 +27,22 @@ pub fn text_to_bank(text: &[u8], out: &mut [u8]) -> Answer
     Answer::Written(bank::writing::write(tag, out))
 }
 
+// Bank to text: numbers 1 and 9 to 19. The text is written from the output's start on; what stands behind word W is never looked at.
+pub fn bank_to_text(bank: &[u8], out: &mut [u8]) -> Answer
+    ensures { λ r. ⌜ answered r (now (out .exit)) ≡ bankToText (now (bank .entry)) (now (out .entry)) ⌝ }
+{
+    if out.len() < 160 {
+        return Answer::Refused(1);
+    }
+    let reading = bank::reading::read(bank);
+    let number = reading.number;
+    if number != 0 {
+        return Answer::Refused(number);
+    }
+    let tag = reading.tag;
+    Answer::Written(text::writing::write(tag, out))
+}
+
 // The raw line of a bank: numbers 1, 9 and 10.
 pub fn raw_line(bank: &[u8], out: &mut [u8]) -> Answer
     ensures { λ r. ⌜ answered r (now (out .exit)) ≡ rawLine (now (bank .entry)) (now (out .entry)) ⌝ }

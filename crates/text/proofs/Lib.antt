@@ -9,3 +9,6 @@ pub mod Starts
 pub mod Found
 pub mod Lasts
 pub mod Whole
+pub mod Joins
+pub mod Rooms
+pub mod Written

@@ -2,3 +2,4 @@
 pub mod names;
 pub mod parts;
 pub mod reading;
+pub mod writing;

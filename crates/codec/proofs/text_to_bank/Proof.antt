@@ -1,15 +1,16 @@
 -- `text_to_bank` meets its contract: the reading is the rules', and what it gives is written.
-use mathlib.Core.Path.{_≡_, ap}
+use mathlib.Core.Path.{_≡_}
 use borrow.Author.Needs.{needs}
 use Rattle.rules.specs.Answers.{taken, _>>=_}
-use Rattle.rules.specs.Grammar.{Tag, TagText}
+use Rattle.rules.specs.Grammar.{Tag}
 use Rattle.rules.specs.Coding.{bankOf}
 use Rattle.rules.specs.Conditions.{textRules}
 use Rattle.rules.specs.Calls.{textToBank}
 use Rattle.rules.specs.TextNumbers.{tagOfText}
+use Rattle.rules.specs.Grammar.{TagText}
 use Rattle.rules.proofs.TextReads.{tag-reads}
-use Rattle.scheme.specs.Records.{recordOf}
-use Rattle.codec.proofs.Ends.{short, refuses, writes, read-refused, read-taken}
+use Rattle.scheme.specs.Records.{RecordIs}
+use Rattle.codec.proofs.Ends.{short, read-refused, read-written, read-taken}
 use Rattle.codec.proofs.text_to_bank.Statement.{statement}
 use Rattle.codec.proofs.text_to_bank.Tie as tie
 
@@ -25,32 +26,32 @@ returns-2 c =
     let r = c .before .read in
     let s = c .before .before in
     let x = s .before .before .before .args in
-    let e = read-refused (tagOfText (x .text .now)) (r .result) (r .ensures) (c .if2 .taken) in
-    refuses 64 (x .out .now) (s .if1 .left) (r .result .number) (tagOfText (x .text .now) >>= λ τ. taken (bankOf τ)) (ap (_>>= λ τ. taken (bankOf τ)) e)
+    read-refused 64 bankOf (x .out .now) (s .if1 .left) (tagOfText (x .text .now)) (r .result) (r .ensures) (c .if2 .taken)
 
 -- the tag that was read, from the place where it is
-tag : (c : tie.Else2) → let t = c .before .before .before .before .before .args .text .now in
-    (τ : Tag) × (tagOfText t ≡ taken τ) × (c .before .read .result .tag ≡ recordOf τ) × TagText t τ
+tag : (c : tie.Else2) → let r = c .before in
+    (τ : Tag) × (tagOfText (r .before .before .before .before .args .text .now) ≡ taken τ) × RecordIs (r .read .result .tag) τ
 tag c =
-    let t = c .before .before .before .before .before .args .text .now in
-    read-taken (tagOfText t) (c .before .read .result) (c .before .read .ensures) (textRules t) (TagText t) (tag-reads t) (c .if2 .left)
+    let r = c .before in
+    let x = r .before .before .before .before .args .text .now in
+    read-taken (textRules x) (TagText x) (λ τ h. h .fits) (tagOfText x) (tag-reads x) (r .read .result) (r .read .ensures) (c .if2 .left)
 
 has-tag : tie.Need-write-requires
 has-tag c κs =
     let e = c .before .before in
-    let (τ, _, q, r) = tag e in
-    (e .before .before .if1 .left, record { tag = τ; is = record { fits = r .fits; same = q } })
+    let (τ, _, i) = tag e in
+    (e .before .before .if1 .left, record { tag = τ; is = i })
 
 returns-3 : tie.Need-returns-3
 unfolding textToBank
 returns-3 c =
     let w = c .before .before in
     let e = w .before .before .before in
-    let s = e .before .before in
+    let r = e .before in
+    let s = r .before in
     let x = s .before .before .before .args in
-    let (τ, a, q, r) = tag e in
-    let (n, o) = w .write .ensures τ (record { fits = r .fits; same = q }) in
-    writes 64 (x .out .now) (s .if1 .left) (bankOf τ) (tagOfText (x .text .now) >>= λ τ. taken (bankOf τ)) (ap (_>>= λ τ. taken (bankOf τ)) a) _ _ n o
+    let (τ, a, i) = tag e in
+    read-written 64 bankOf (x .out .now) (s .if1 .left) (tagOfText (x .text .now)) (r .read .result) (r .read .ensures) τ a i _ _ (w .write .ensures)
 
 pub text-to-bank-spec : {M : Type 1} → statement M
 text-to-bank-spec =
