@@ -8,8 +8,6 @@ use lib.ListN.{length, take, replicate, length-append}
 use lib.Seq.{take-at, take-take, length-take-le}
 use Rattle.numeral.specs.Numeral.{value, shortest, numeral}
 use Rattle.numeral.proofs.Values.{numeral-value, numeral-of-value}
-use Rattle.rules.specs.declared.Scheme.{Scheme}
-use Rattle.rules.specs.declared.Scheme.the-variants.{Sgtin96, Sgtin198, Sscc96, Sgln96, Sgln195, Grai96, Grai170, Giai96, Gsrn96, Gsrnp96, Gdti96, Gdti174, Gid96}
 use Rattle.rules.specs.Bytes.{dot, digitsText}
 use Rattle.rules.specs.Characters.{stringText}
 use Rattle.rules.specs.Schemes.{Row, row, referenceE, Body, digits, integer, string, _then_, _zeros_, E, rowOf, cell, about}
@@ -20,8 +18,9 @@ use Rattle.rules.proofs.Numbers.{whole-of}
 use Rattle.scheme.specs.declared.lines.Parts.{Parts}
 use Rattle.scheme.specs.declared.lines.Parts.the-variants.{Integer, String, Zeros, Asset, Integers}
 use Rattle.scheme.specs.declared.record.Record.{Record}
-use Rattle.scheme.specs.Lines.{partsOf, partsFor}
+use Rattle.scheme.specs.Lines.{partsOf, partsFor, Narrow}
 use Rattle.scheme.specs.Records.{RecordIs, HasTag, Writes, recordOf, padded}
+use Rattle.scheme.proofs.Widths.{parts-same, parts-narrow}
 use Rattle.scheme.proofs.Shapes.{Partitioned, partitioned, reference-and-last, reference-alone, asset-alone, general}
 use Rattle.text.proofs.Joins.{from-start}
 use Rattle.text.specs.Writing.{Puts, Company, integerText, companyText, tableText, integersText}
@@ -72,15 +71,7 @@ module _ {body : Body} {ps : List (List ℕ)} (w : Partitioned body ps) where
       let (l, u) = both (leb 6 n) (leb n 12) (w .company-fits .shape) in
       record { one-digit = omega (arith, ltb→lt (value 10 (w .filter)) 8 (w .filter-fits .size)); least = omega (arith, leb→le 6 n l); most = omega (arith, leb→le n 12 u) }
 
--- a string of the table has twenty characters at most
-abbrev Short : Parts → Type 0
-Short (Integer t n) = Unit
-Short (String t n) = n / 7 ≤ 20
-Short (Zeros t n) = Unit
-Short Asset = Unit
-Short (Integers a b c) = Unit
-
-by-values : (τ : Tag) (p : Parts) → about (τ .scheme) .parts ≡ partsOf p → Short p → Fits (layout (τ .scheme)) (τ .parts)
+by-values : (τ : Tag) (p : Parts) → about (τ .scheme) .parts ≡ partsOf p → Narrow p → Fits (layout (τ .scheme)) (τ .parts)
     → (written (layout (τ .scheme)) (τ .parts) ≡ partsText p (recordOf τ)) × Small p (recordOf τ)
 unfolding recordOf
 by-values τ (Integer t n) g k h =
@@ -107,22 +98,6 @@ by-values τ (Integers a b c) g k h =
     let (p, q, r, e, i, j, l) = general a b c (rw g at h) in
     rw (g, e, whole a p i, whole b q j, whole c r l) (refl, tt)
 
--- a line of the table, as the rules have it and as the code does
-line-back : (s : Scheme) → (about s .parts ≡ partsOf (partsFor (about s .parts))) × Short (partsFor (about s .parts))
-line-back Sgtin96 = (refl, omega arith)
-line-back Sgtin198 = (refl, omega arith)
-line-back Sscc96 = (refl, omega arith)
-line-back Sgln96 = (refl, omega arith)
-line-back Sgln195 = (refl, omega arith)
-line-back Grai96 = (refl, omega arith)
-line-back Grai170 = (refl, omega arith)
-line-back Giai96 = (refl, omega arith)
-line-back Gsrn96 = (refl, omega arith)
-line-back Gsrnp96 = (refl, omega arith)
-line-back Gdti96 = (refl, omega arith)
-line-back Gdti174 = (refl, omega arith)
-line-back Gid96 = (refl, omega arith)
-
 -- The record r of a tag, whose line has the parts p.
 module _ (r : Record) (τ : Tag) (h : RecordIs r τ) (p : Parts) (e : p ≡ partsFor (about (r .scheme) .parts)) where
   same-scheme : r .scheme ≡ τ .scheme
@@ -131,9 +106,8 @@ module _ (r : Record) (τ : Tag) (h : RecordIs r τ) (p : Parts) (e : p ≡ part
 
   right : (written (layout (τ .scheme)) (τ .parts) ≡ partsText p r) × Small p r
   right =
-      let (g, k) = line-back (τ .scheme) in
       let f : p ≡ partsFor (about (τ .scheme) .parts) = e ∙ ap (λ s. partsFor (about s .parts)) same-scheme in
-      rw (h .same) (by-values τ p (g ∙ ap partsOf (sym f)) (rw f k) (h .fits))
+      rw (h .same) (by-values τ p (sym (parts-same (τ .scheme) p f)) (parts-narrow (τ .scheme) p f) (h .fits))
 
   text-is : textOf τ ≡ (start ++ label (r .scheme)) ++ partsText p r
   unfolding textOf
