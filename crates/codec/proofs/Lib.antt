@@ -1,3 +1,4 @@
 -- How a call's answer follows from what is read and what is written.
 pub mod Ends
 pub mod RawAnswers
+pub mod TurnedBack

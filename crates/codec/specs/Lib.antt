@@ -1,2 +1,3 @@
--- The answers of the public calls.
+-- The answers of the public calls, and two of them one after the other.
 pub mod Answers
+pub mod Ties

@@ -1,0 +1,130 @@
+-- One call after the other: what the first wrote, the second turns back, because the written rules do.
+use Prim.Native.Nat.{ℕ, _≤_, _<_}
+use mathlib.Core.Path.{_≡_, refl, sym, ap, _∙_}
+use mathlib.Core.List.{List}
+use native.Mathlib.Omega.{arith}
+use lib.ListN.{length, take, drop, length-append}
+use lib.Seq.{take-at}
+use Rattle.numeral.specs.Numeral.{Digits}
+use Rattle.numeral.proofs.Spreads.{length-gather}
+use Rattle.rules.specs.Answers.{Answer, refused, taken, _>>=_}
+use Rattle.rules.specs.Grammar.{Tag, Fits, layout, start, textOf}
+use Rattle.rules.specs.Coding.{TagBank, bankOf, within}
+use Rattle.rules.specs.Calls.{call, line, lent, bankRoom, textRoom, textAnswer, bankAnswer, textToBank, bankToText}
+use Rattle.rules.proofs.Again.{line-is}
+use Rattle.rules.proofs.TextReads
+use Rattle.rules.proofs.Banks
+use Rattle.rules.proofs.OneAnswer.{one-answer-of-text-to-bank, one-answer-of-bank-to-text}
+use Rattle.codec.specs.Answers.{answered}
+use Rattle.codec.specs.Ties.{writtenAgain, shownAgain}
+use Rattle.codec.specs.declared.Answer.the-variants.{Written, Refused}
+
+-- a first call's answer `a` on `lent′`, then a second that gives `f w` for what was written
+module _ (a : Answer (List ℕ)) (before after : List ℕ) where
+  room-for : (n : ℕ) → answered (Written n) after ≡ call before a → n ≤ length after
+  room-for = go a
+    where
+      go : (a : Answer (List ℕ)) (n : ℕ) → answered (Written n) after ≡ call before a → n ≤ length after
+      go (refused m) n e = omega (arith, ap (λ c. c .written) e)
+      go (taken w) n e =
+          rw (ap (λ c. c .output) e, length-append) (omega (arith, ap (λ c. c .written) e))
+
+  module _ (full : call before a .number ≡ 0 → 0 < call before a .written) (f : List ℕ → Answer (List ℕ)) (z : Answer (List ℕ)) (same : (w : List ℕ) → a ≡ taken w → f w ≡ z) (out : List ℕ) where
+    then-second : (n : ℕ) → answered (Written n) after ≡ call before a → call out (f (take n after)) ≡ call out (a >>= λ w. z)
+    then-second n e = go a refl
+      where
+        go : (x : Answer (List ℕ)) → a ≡ x → call out (f (take n after)) ≡ call out (x >>= λ w. z)
+        go (refused m) q =
+            let g : answered (Written n) after ≡ call before (refused m) = e ∙ ap (call before) q in
+            let p : 0 < call before a .written = full (ap (λ x. call before x .number) q ∙ sym (ap (λ c. c .number) g)) in
+            absurd (omega (arith, p, ap (λ x. call before x .written) q))
+        go (taken w) q =
+            let g : answered (Written n) after ≡ call before (taken w) = e ∙ ap (call before) q in
+            let t : take n after ≡ w = ap (λ c. take (c .written) (c .output)) g ∙ take-at w (drop (length w) before) (length w) refl in
+            ap (call out) (ap f t ∙ same w q)
+
+    then-none : (n : ℕ) → answered (Refused n) after ≡ call before a → answered (Refused n) out ≡ call out (a >>= λ w. z)
+    then-none n e = go a refl
+      where
+        go : (x : Answer (List ℕ)) → a ≡ x → answered (Refused n) out ≡ call out (x >>= λ w. z)
+        go (refused m) q = ap (λ c. call out (refused (c .number))) (e ∙ ap (call before) q)
+        go (taken w) q =
+            let p : 0 < call before a .written = full (ap (λ x. call before x .number) q) in
+            absurd (omega (arith, p, ap (λ c. c .written) e))
+
+text-full : (τ : Tag) → 0 < length (textOf τ)
+unfolding textOf start
+text-full τ = omega arith
+
+bank-full : (τ : Tag) → 0 < length (bankOf τ)
+unfolding bankOf
+bank-full τ = rw length-gather (omega arith)
+
+-- bank to text, then text to bank
+module _ (b text out : List ℕ) (d : Digits 256 b) where
+  shown-full : call text (textAnswer b text) .number ≡ 0 → 0 < call text (textAnswer b text) .written
+  unfolding bankToText
+  shown-full e =
+      let (w, r, n, _) = one-answer-of-bank-to-text b text d (call text (textAnswer b text)) .1 refl .accepted e in
+      rw (n, r .2) (text-full (r .0))
+
+  bank-again : (w : List ℕ) → textAnswer b text ≡ taken w → bankAnswer w out ≡ lent bankRoom out (taken (within b))
+  unfolding bankToText
+  bank-again w e =
+      let c = call text (textAnswer b text) in
+      let (v, r, n, o) = one-answer-of-bank-to-text b text d c .1 refl .accepted (ap (λ x. call text x .number) e) in
+      let same : w ≡ textOf (r .0) = sym (wrote w e) ∙ line-is text v c n o ∙ r .2 in
+      rw (TextReads.tag-of w (r .0) (record { fits = r .1 .fits; text = same }), sym (r .1 .bank))
+    where
+      wrote : (w : List ℕ) → textAnswer b text ≡ taken w → line (call text (textAnswer b text)) ≡ w
+      wrote w e = rw e (line-is text w (call text (taken w)) refl refl)
+
+  module _ (n : ℕ) (after : List ℕ) where
+    pub shown-room : answered (Written n) after ≡ bankToText b text → n ≤ length after
+    unfolding bankToText
+    shown-room = room-for (textAnswer b text) text after n
+
+    -- what is shown, written again
+    pub shown-again : answered (Written n) after ≡ bankToText b text → textToBank (take n after) out ≡ writtenAgain b text out
+    unfolding bankToText textToBank
+    shown-again = then-second (textAnswer b text) text after shown-full (λ t. bankAnswer t out) (lent bankRoom out (taken (within b))) bank-again out n
+
+    pub not-shown : answered (Refused n) after ≡ bankToText b text → answered (Refused n) out ≡ writtenAgain b text out
+    unfolding bankToText
+    not-shown = then-none (textAnswer b text) text after shown-full (λ t. bankAnswer t out) (lent bankRoom out (taken (within b))) bank-again out n
+
+bank-of : (w : List ℕ) (τ : Tag) → Fits (layout (τ .scheme)) (τ .parts) → w ≡ bankOf τ → TagBank w τ
+bank-of w τ f e = rw e (Banks.own-bank τ f)
+
+-- text to bank, then bank to text
+module _ (t bank out : List ℕ) where
+  written-full : call bank (bankAnswer t bank) .number ≡ 0 → 0 < call bank (bankAnswer t bank) .written
+  unfolding textToBank
+  written-full e =
+      let (w, r, n, _) = one-answer-of-text-to-bank t bank (call bank (bankAnswer t bank)) .1 refl .accepted e in
+      rw (n, r .2) (bank-full (r .0))
+
+  text-again : (w : List ℕ) → bankAnswer t bank ≡ taken w → textAnswer w out ≡ lent textRoom out (taken t)
+  unfolding textToBank
+  text-again w e =
+      let c = call bank (bankAnswer t bank) in
+      let (v, r, n, o) = one-answer-of-text-to-bank t bank c .1 refl .accepted (ap (λ x. call bank x .number) e) in
+      let same : w ≡ bankOf (r .0) = sym (wrote w e) ∙ line-is bank v c n o ∙ r .2 in
+      rw (Banks.tag-of w (r .0) (bank-of w (r .0) (r .1 .fits) same), sym (r .1 .text))
+    where
+      wrote : (w : List ℕ) → bankAnswer t bank ≡ taken w → line (call bank (bankAnswer t bank)) ≡ w
+      wrote w e = rw e (line-is bank w (call bank (taken w)) refl refl)
+
+  module _ (n : ℕ) (after : List ℕ) where
+    pub written-room : answered (Written n) after ≡ textToBank t bank → n ≤ length after
+    unfolding textToBank
+    written-room = room-for (bankAnswer t bank) bank after n
+
+    -- what is written, shown again
+    pub written-again : answered (Written n) after ≡ textToBank t bank → bankToText (take n after) out ≡ shownAgain t bank out
+    unfolding bankToText textToBank
+    written-again = then-second (bankAnswer t bank) bank after written-full (λ b. textAnswer b out) (lent textRoom out (taken t)) text-again out n
+
+    pub not-written : answered (Refused n) after ≡ textToBank t bank → answered (Refused n) out ≡ shownAgain t bank out
+    unfolding textToBank
+    not-written = then-none (bankAnswer t bank) bank after written-full (λ b. textAnswer b out) (lent textRoom out (taken t)) text-again out n
