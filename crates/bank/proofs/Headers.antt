@@ -1,7 +1,7 @@
 -- The header, the words and the zeros behind the parts, in the code's own terms: o is what the header names, and l the line of its scheme.
-use Prim.Native.Nat.{ℕ, _+_, _-_, _*_, _≤_, _<_}
+use Prim.Native.Nat.{ℕ, _+_, _-_, _*_, _≤_}
 use mathlib.Core.Path.{_≡_, refl, sym, ap, _∙_}
-use mathlib.Core.List.{List, [], _∷_}
+use mathlib.Core.List.{List}
 use mathlib.Core.Option.{Option, none, some}
 use native.Mathlib.Omega.{arith}
 use lib.ListN.{length}
@@ -14,9 +14,10 @@ use Rattle.scheme.specs.declared.lines.Line.{Line}
 use Rattle.scheme.specs.declared.lines.Headed.{Headed}
 use Rattle.scheme.specs.declared.lines.Headed.the-variants.{Is, Unlisted}
 use Rattle.scheme.specs.Lines.{partsOf, lineOf, named, headedBy}
+use Rattle.scheme.proofs.Widths.{parts-same}
 use Rattle.bank.specs.Reader.{codeField}
 use Rattle.bank.specs.Reading.{endOf, Clean, Coded}
-use Rattle.bank.proofs.Sizes.{parts-same, sizes}
+use Rattle.bank.proofs.Sizes.{sizes}
 use Rattle.bank.proofs.Stages.{unlisted, other-words, one-after}
 
 -- what the option is that is named so

@@ -25,7 +25,7 @@ use Rattle.scheme.specs.Lines.{lineOf}
 use Rattle.scheme.specs.Records.{recordOf, RecordIs}
 use Rattle.bank.specs.Writing.{Keeps, packed}
 use Rattle.bank.proofs.Fronts.{splice-front}
-use Rattle.bank.proofs.PackedParts.{limits, tag-packs}
+use Rattle.bank.proofs.PackedParts.{few-zeros, tag-packs}
 
 zeros-are : (n : ℕ) → numeral 2 n 0 ≡ replicate n 0
 unfolding numeral
@@ -127,7 +127,7 @@ module _ {r : Record} {τ : Tag} (h : RecordIs r τ) {L : Line} (e : L ≡ lineO
 
     pub takes-fill : Takes s (fillOf L s) 0 (length after)
     takes-fill =
-        let few : fillOf L s ≤ 57 = omega (arith, filled, bits-long, words-are, sizes (τ .scheme) .whole, limits (τ .scheme) .few-zeros) in
+        let few : fillOf L s ≤ 57 = omega (arith, filled, bits-long, words-are, sizes (τ .scheme) .whole, few-zeros (τ .scheme)) in
         takes so-far (fillOf L s) 0 few (pow-pos (fillOf L s)) (omega (arith, filled, few-words))
 
     bank-is : gather 2 8 (bankSize (L .words)) (bits ++ numeral 2 (fillOf L s) 0) ≡ bankOf τ

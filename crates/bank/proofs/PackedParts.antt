@@ -1,6 +1,6 @@
 -- The fields of a tag's record keep the limits of its scheme's parts, and their bits are those of the tag's parts.
 use Prim.Native.Nat.{ℕ, _+_, _-_, _*_, _/_, _^_, _≤_, _<_}
-use mathlib.Core.Path.{_≡_, refl, sym, ap, _∙_, subst⁻¹}
+use mathlib.Core.Path.{_≡_, refl, sym, ap, _∙_, subst, subst⁻¹}
 use mathlib.Core.List.{List, _∷_, _++_, append-assoc}
 use native.Mathlib.Omega.{arith}
 use lib.Dec.{leb, leb→le, ltb→lt, eqb→eq, lit<}
@@ -9,7 +9,6 @@ use lib.Seq.{take-at, take-take, take-append-add}
 use Rattle.numeral.specs.Numeral.{value, Digits, spread}
 use Rattle.numeral.proofs.Values.{value-lt, digits-append, digits-take, digits-zeros}
 use Rattle.rules.specs.declared.Scheme.{Scheme}
-use Rattle.rules.specs.declared.Scheme.the-variants.{Sgtin96, Sgtin198, Sscc96, Sgln96, Sgln195, Grai96, Grai170, Giai96, Gsrn96, Gsrnp96, Gdti96, Gdti174, Gid96}
 use Rattle.rules.specs.declared.Table.{Table}
 use Rattle.rules.specs.Schemes.{prefix, integer, string, Row, row, reference, referenceE, rowOf, cell, Body, _then_, _zeros_, E, about, zeroBits}
 use Rattle.rules.specs.Schemes.{Parts as RulesParts}
@@ -21,44 +20,30 @@ use Rattle.rules.proofs.Fields.{characters-are, filled-is}
 use Rattle.scheme.specs.declared.lines.Parts.{Parts}
 use Rattle.scheme.specs.declared.lines.Parts.the-variants.{Integer, String, Zeros, Asset, Integers}
 use Rattle.scheme.specs.declared.record.Record.{Record}
-use Rattle.scheme.specs.Lines.{partsOf, lineOf}
+use Rattle.scheme.specs.Lines.{partsOf, lineOf, Narrow}
+use Rattle.scheme.proofs.Widths.{parts-same, parts-narrow}
 use Rattle.scheme.specs.Records.{recordOf, RecordIs, filterOf, prefixOf, digitsOf, referenceOf, serialOf, charactersOf, padded}
 use Rattle.scheme.specs.Rows.{assetOf}
 use Rattle.scheme.proofs.Shapes.{Partitioned, partitioned, reference-and-last, reference-alone, asset-alone, general}
 use Rattle.bank.specs.Writing.{Company, Reference, Number, Keeps, packed}
 
--- What is seen scheme by scheme.
-abbrev Narrow : Parts → Type 0
-Narrow (Integer t n) = n ≤ 57
-Narrow (String t n) = (n ≡ 7 * (n / 7)) × (n / 7 ≤ 20)
-Narrow (Zeros t n) = Unit
-Narrow Asset = Unit
-Narrow (Integers a b c) = (a ≤ 57) × (b ≤ 57) × (c ≤ 57)
+few-zeros-in : (p : Parts) → Narrow p → zeroBits (partsOf p) ≤ 24
+few-zeros-in (Integer t n) l = omega arith
+few-zeros-in (String t n) l = omega arith
+few-zeros-in (Zeros t n) l = l
+few-zeros-in Asset l = omega arith
+few-zeros-in (Integers a b c) l = omega arith
 
-pub record Limits (s : Scheme) : Type 0 where
-  pub narrow : Narrow (lineOf s .parts)
+-- A scheme and the parts of its line.
+module _ (s : Scheme) where
+  parts-are : partsOf (lineOf s .parts) ≡ about s .parts
+  parts-are = parts-same s (lineOf s .parts) refl
+
+  narrow : Narrow (lineOf s .parts)
+  narrow = parts-narrow s (lineOf s .parts) refl
+
   pub few-zeros : zeroBits (about s .parts) ≤ 24
-
-sound : (s : Scheme) → (partsOf (lineOf s .parts) ≡ about s .parts) × Limits s
-sound Sgtin96 = (refl, omega arith)
-sound Sgtin198 = (refl, omega arith)
-sound Sscc96 = (refl, omega arith)
-sound Sgln96 = (refl, omega arith)
-sound Sgln195 = (refl, omega arith)
-sound Grai96 = (refl, omega arith)
-sound Grai170 = (refl, omega arith)
-sound Giai96 = (refl, omega arith)
-sound Gsrn96 = (refl, omega arith)
-sound Gsrnp96 = (refl, omega arith)
-sound Gdti96 = (refl, omega arith)
-sound Gdti174 = (refl, omega arith)
-sound Gid96 = (refl, omega arith)
-
-parts-are : (s : Scheme) → partsOf (lineOf s .parts) ≡ about s .parts
-parts-are s = sound s .0
-
-pub limits : (s : Scheme) → Limits s
-limits s = sound s .1
+  few-zeros = subst (λ p. zeroBits p ≤ 24) parts-are (few-zeros-in (lineOf s .parts) narrow)
 
 -- A filter and a company prefix, and a reference of table t behind them.
 module _ {body : Body} {ps : List (List ℕ)} (a : Partitioned body ps) {r : Record} (ef : r .filter ≡ value 10 (a .filter)) (en : r .digits ≡ length (a .company)) (ed : r .prefix ≡ value 10 (a .company)) where
@@ -90,12 +75,12 @@ filled-places n cs k l m =
     let e : length cs + (k - length cs) ≡ k = omega arith in
     take-take k n (cs ++ replicate n 0) m ∙ rw e at (take-append-add cs (replicate n 0) (k - length cs)) ∙ ap (cs ++_) (zeros-front (k - length cs) n (omega arith))
 
-module _ (n : ℕ) (cs : List ℕ) (h : Fit (string n) cs) (l : (n ≡ 7 * (n / 7)) × (n / 7 ≤ 20)) where
+module _ (n : ℕ) (cs : List ℕ) (h : Fit (string n) cs) (l : (n ≡ 7 * (n / 7)) × (0 < n / 7) × (n / 7 ≤ 20)) where
   fits : length cs ≤ n / 7
   fits = leb→le (length cs) (n / 7) (h .size)
 
   string-is : spread 2 7 (take (n / 7) (padded cs)) ≡ filled n (spread 2 7 cs)
-  string-is = ap (spread 2 7) (filled-places 20 cs (n / 7) fits (l .1)) ∙ sym (filled-is n cs (l .0) fits)
+  string-is = ap (spread 2 7) (filled-places 20 cs (n / 7) fits (l .2)) ∙ sym (filled-is n cs (l .0) fits)
 
   string-groups : Digits 128 (padded cs)
   string-groups = digits-take 128 20 (cs ++ replicate 20 0) (digits-append 128 cs (replicate 20 0) (characters-are cs (h .symbols) .1) (digits-zeros 128 20 (lit< tt)))
@@ -135,7 +120,7 @@ packs s (String t n) ps l h =
     let a = partitioned (t then string n) h in
     let (x, y, e, i, j) = reference-and-last t (string n) (length (a .company)) (a .rest-fits) in
     subst⁻¹ (Packs s (String t n)) (a .parts ∙ ap (λ z. a .filter ∷ a .company ∷ z) e)
-    ((reference-of a refl refl refl i refl, string-groups n y j l, l .1), rw (string-is n y j l) (simp append-assoc))
+    ((reference-of a refl refl refl i refl, string-groups n y j l, l .2), rw (string-is n y j l) (simp append-assoc))
 packs s (Zeros t n) ps l h =
     let a = partitioned (t zeros n) h in
     let (x, e, i) = reference-alone t n (length (a .company)) (a .rest-fits) in
@@ -156,4 +141,4 @@ pub tag-packs : (r : Record) (τ : Tag) → RecordIs r τ
 unfolding recordOf
 tag-packs r τ h =
     let s = τ .scheme in
-    rw (h .same) (rw (parts-are s) at (packs s (lineOf s .parts) (τ .parts) (limits s .narrow) (rw (parts-are s) (h .fits))))
+    rw (h .same) (rw (parts-are s) at (packs s (lineOf s .parts) (τ .parts) (narrow s) (rw (parts-are s) (h .fits))))

@@ -1,19 +1,18 @@
 -- The parts of a scheme with a partition table: refused by rule 18 or 19, or taken, in the numbers that stand at their code bits.
 use Prim.Native.Nat.{ℕ, _+_, _*_, _/_, _^_, _≤_, _<_}
-use mathlib.Core.Path.{_≡_, refl, sym, ap, _∙_}
+use mathlib.Core.Path.{_≡_, refl, ap, _∙_}
 use mathlib.Core.List.{List, [], _∷_}
-use native.Mathlib.Nat.{add-zero}
 use native.Mathlib.Omega.{arith}
 use lib.Dec.{ltb}
 use lib.ListN.{length, take, drop}
 use lib.Seq.{drop-drop}
 use borrow.Author.Tests.{lt-ltb, le-ltb}
-use Rattle.numeral.specs.Numeral.{value, numeral, shortest, spread, gather}
+use Rattle.numeral.specs.Numeral.{numeral, shortest, spread, gather}
 use Rattle.numeral.proofs.Values.{value-nil}
 use Rattle.rules.specs.Answers.{Answer, refused, taken, _>>=_, _>>_, demand}
 use Rattle.rules.specs.declared.Table.{Table}
-use Rattle.rules.specs.Schemes.{integer, string, reference as digitsOf, referenceE, Row, row, F, _then_, _zeros_, E, cell, rowAt, rowOf, prefixBits, prefixDigits}
-use Rattle.rules.specs.Grammar.{laid, bodyLayout}
+use Rattle.rules.specs.Schemes.{integer, string, reference as digitsOf, referenceE, Row, row, _then_, _zeros_, E, cell, rowAt, rowOf, prefixBits, prefixDigits}
+use Rattle.rules.specs.Grammar.{laid}
 use Rattle.rules.specs.Coding.{wordCount, bankSize}
 use Rattle.rules.specs.Conditions.{partitionIn, rowIn}
 use Rattle.rules.specs.BankNumbers.{field, fieldIn, fieldsIn, stringIn, codeIn}
@@ -22,11 +21,11 @@ use Rattle.rules.proofs.CodeReads.{take-inside}
 use Rattle.rules.proofs.BankReads.{code-seen}
 use Rattle.scheme.specs.declared.lines.Parts.{Parts}
 use Rattle.scheme.specs.declared.lines.Parts.the-variants.{Integer, String, Zeros, Asset, Integers}
-use Rattle.scheme.specs.Lines.{partsOf}
+use Rattle.scheme.specs.Lines.{partsOf, Tabled, Narrow}
 use Rattle.scheme.specs.Rows.{assetOf}
 use Rattle.bank.specs.Reader.{codeField}
-use Rattle.bank.specs.Reading.{Tabled, shapeOf, groupsAt}
-use Rattle.bank.proofs.Sizes.{Roomy, Widths}
+use Rattle.bank.specs.Reading.{shapeOf, groupsAt}
+use Rattle.bank.proofs.Sizes.{Roomy}
 use Rattle.bank.proofs.Numbers.{decimal-at, small-prefix}
 
 -- the groups of a string that begins at code bit c
@@ -104,7 +103,7 @@ module _ (b : List ℕ) (long : bankSize (wordCount b) ≤ length b) (row : part
   large-reference Asset f r h = absurd (omega (arith, no-bits b (start b)))
   large-reference (Integers x y z) f r h = absurd (not-three f)
 
-  pub small-reference : (p : Parts) → Tabled p → Roomy (wordCount b) (rowIn b) (shapeOf p (rowIn b)) → Widths (wordCount b) p
+  pub small-reference : (p : Parts) → Tabled p → Roomy (wordCount b) (rowIn b) (shapeOf p (rowIn b)) → Narrow p
       → codeField b (start b) (shapeOf p (rowIn b) .cell .bits) < 10 ^ shapeOf p (rowIn b) .cell .digits → fieldsIn (laid (partsOf p)) (drop 8 (codeIn b)) ≡ answered b p (stringOf b p)
   small-reference (Integer t n) f r w h =
       small-prefix b long (t then integer n) (omega arith) (omega arith) small ∙ rw (cell-small t (omega arith) h, ← code-seen b long (behind b t) n (omega arith))

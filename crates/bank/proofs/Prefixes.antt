@@ -1,21 +1,22 @@
 -- The company prefix, in the code's own terms: P is the partition value that is read, and k the bits and digits of its row.
-use Prim.Native.Nat.{ℕ, _+_, _*_, _^_, _≤_, _<_}
-use mathlib.Core.Path.{_≡_, refl, sym, ap, _∙_}
+use Prim.Native.Nat.{ℕ, _^_, _≤_, _<_}
+use mathlib.Core.Path.{_≡_, sym, ap, _∙_}
 use mathlib.Core.List.{List}
 use native.Mathlib.Omega.{arith}
 use lib.ListN.{length}
 use Rattle.rules.specs.Answers.{refused}
 use Rattle.rules.specs.declared.Scheme.{Scheme}
 use Rattle.rules.specs.Schemes.{rowAt, prefixBits, prefixDigits}
-use Rattle.rules.specs.Conditions.{partitionIn, rowIn}
+use Rattle.rules.specs.Conditions.{rowIn}
 use Rattle.rules.specs.BankNumbers.{tagOfBank}
 use Rattle.rules.proofs.Rows.{row-fair}
 use Rattle.rules.proofs.BankReads.{at-lt}
 use Rattle.scheme.specs.declared.lines.Parts.{Parts}
 use Rattle.scheme.specs.declared.rows.Cell.{Cell}
 use Rattle.scheme.specs.Rows.{prefixOf}
+use Rattle.scheme.specs.Lines.{Tabled}
 use Rattle.bank.specs.Reader.{LiesInCode, codeField}
-use Rattle.bank.specs.Reading.{Coded, Tabled, Begun}
+use Rattle.bank.specs.Reading.{Coded, Begun}
 use Rattle.bank.proofs.Sizes.{roomy}
 use Rattle.bank.proofs.Answers as Answers
 

@@ -1,23 +1,21 @@
 -- The record of a tag whose parts are read, in the numbers that stand at their code bits.
-use Prim.Native.Nat.{ℕ, _+_, _-_, _*_, _/_, _^_, _≤_, _<_}
+use Prim.Native.Nat.{ℕ, _+_, _-_, _/_, _^_, _≤_, _<_}
 use mathlib.Core.Path.{_≡_, refl, sym, ap, _∙_}
 use mathlib.Core.Logic.{_⊎_, inl, inr}
-use mathlib.Core.List.{List, [], _∷_, _++_, append-assoc}
+use mathlib.Core.List.{List, [], _++_, append-assoc}
 use native.Mathlib.Nat.{add-zero}
 use native.Mathlib.Omega.{arith}
 use lib.Dec.{lit<}
-use lib.ListN.{length, take, drop, replicate, length-append, length-replicate, replicate-append-replicate}
+use lib.ListN.{length, take, replicate, length-append, length-replicate, replicate-append-replicate}
 use lib.Seq.{take-take}
-use Rattle.numeral.specs.Numeral.{value, numeral, shortest, gather}
+use Rattle.numeral.specs.Numeral.{gather}
 use Rattle.numeral.proofs.Values.{numeral-nil, length-numeral, value-numeral-lt}
 use Rattle.numeral.proofs.Shortest.{value-shortest}
 use Rattle.numeral.proofs.Spreads.{length-gather}
-use Rattle.rules.specs.Answers.{Answer, refused, taken, _>>=_}
+use Rattle.rules.specs.Answers.{refused, taken, _>>=_}
 use Rattle.rules.specs.declared.Scheme.{Scheme}
 use Rattle.rules.specs.Schemes.{Parts as RulesParts, about, cell, prefixBits, prefixDigits}
-use Rattle.rules.specs.Grammar.{Tag}
-use Rattle.rules.specs.Coding.{wordCount, bankSize}
-use Rattle.rules.specs.Conditions.{partitionIn, rowIn}
+use Rattle.rules.specs.Conditions.{rowIn}
 use Rattle.rules.specs.BankNumbers.{stringIn}
 use Rattle.alphabet.specs.Strings.{countOf}
 use Rattle.alphabet.proofs.Kept.{first-characters}
@@ -26,14 +24,12 @@ use Rattle.alphabet.proofs.Counts.{count-taken, count-refused}
 use Rattle.scheme.specs.declared.lines.Parts.{Parts}
 use Rattle.scheme.specs.declared.lines.Parts.the-variants.{Integer, String, Zeros, Asset, Integers}
 use Rattle.scheme.specs.declared.record.Record.{Record}
-use Rattle.scheme.specs.declared.record.Reading.{Reading}
-use Rattle.scheme.specs.Lines.{partsOf}
+use Rattle.scheme.specs.Lines.{partsOf, Tabled, Narrow}
 use Rattle.scheme.specs.Records.{filterOf, prefixOf, digitsOf, referenceOf, serialOf, charactersOf, padded, recordOf, readingOf}
 use Rattle.bank.specs.Reader.{codeField}
 use Rattle.bank.specs.declared.reading.Shape.{Shape}
-use Rattle.bank.specs.Reading.{Tabled, shapeOf, groupsAt}
-use Rattle.bank.proofs.Sizes.{Widths}
-use Rattle.bank.proofs.Parts.{start, shown, answered, stringOf, no-bits, not-three}
+use Rattle.bank.specs.Reading.{shapeOf, groupsAt}
+use Rattle.bank.proofs.Parts.{start, answered, stringOf, no-bits, not-three}
 
 -- the record of parts p
 pub record-by : (s : Scheme) (p : RulesParts) (ps : List (List ℕ)) → p ≡ about s .parts
@@ -81,7 +77,7 @@ module _ (b : List ℕ) (s : Scheme) (small : codeField b 14 (prefixBits (rowIn 
         count = n;
       }
 
-  pub record-made : (p : Parts) → partsOf p ≡ about s .parts → Tabled p → Widths (wordCount b) p → shapeOf p (rowIn b) .groups ≤ 20
+  pub record-made : (p : Parts) → partsOf p ≡ about s .parts → Tabled p → Narrow p → shapeOf p (rowIn b) .groups ≤ 20
       → codeField b (start b) (shapeOf p (rowIn b) .cell .bits) < 10 ^ shapeOf p (rowIn b) .cell .digits
       → (n : ℕ) → n ≡ countOf (stringIn (groupsIn b (shapeOf p (rowIn b)))) → (¬ (n ≡ 0)) ⊎ (shapeOf p (rowIn b) .groups ≡ 0)
       → readingOf (answered b p (stringOf b p) >>= λ ps. taken (record { scheme = s; parts = ps })) ≡ record { number = 0; tag = made (shapeOf p (rowIn b)) n }

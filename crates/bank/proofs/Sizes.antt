@@ -1,6 +1,6 @@
 -- The widths and places of the fields of each scheme: they can be read, and they lie in its words.
-use Prim.Native.Nat.{ℕ, _+_, _-_, _*_, _/_, _≤_, _<_}
-use mathlib.Core.Path.{_≡_, refl}
+use Prim.Native.Nat.{ℕ, _+_, _-_, _*_, _≤_, _<_}
+use mathlib.Core.Path.{_≡_}
 use native.Mathlib.Omega.{arith}
 use Rattle.rules.specs.declared.Scheme.{Scheme}
 use Rattle.rules.specs.declared.Scheme.the-variants.{Sgtin96, Sgtin198, Sscc96, Sgln96, Sgln195, Grai96, Grai170, Giai96, Gsrn96, Gsrnp96, Gdti96, Gdti174, Gid96}
@@ -8,7 +8,7 @@ use Rattle.rules.specs.Schemes.{Row, rows, rowAt, about, words, prefixBits}
 use Rattle.rules.proofs.Rows.{AllRows, by-row}
 use Rattle.scheme.specs.declared.lines.Parts.{Parts}
 use Rattle.scheme.specs.declared.lines.Parts.the-variants.{Integer, String, Zeros, Asset, Integers}
-use Rattle.scheme.specs.Lines.{partsOf, partsFor}
+use Rattle.scheme.specs.Lines.{partsFor}
 use Rattle.bank.specs.declared.reading.Shape.{Shape}
 use Rattle.bank.specs.Reading.{endOf, shapeOf}
 
@@ -20,43 +20,40 @@ pub record Roomy (W : ℕ) (r : Row) (s : Shape) : Type 0 where
   pub groups : s .groups ≤ 20
   pub inside : 14 + prefixBits r + s .cell .bits + s .serial + 7 * s .groups ≤ 16 * W
 
--- a string is whole groups, and three integers lie in W words
-abbrev pub Widths : ℕ → Parts → Type 0
-Widths W (Integer t n) = Unit
-Widths W (String t n) = (n ≡ 7 * (n / 7)) × (0 < n / 7)
-Widths W (Zeros t n) = Unit
-Widths W Asset = Unit
-Widths W (Integers a b c) = (a ≤ 64) × (b ≤ 64) × (c ≤ 64) × (8 + a + b + c ≤ 16 * W)
+-- three integers lie in W words
+abbrev pub Inside : ℕ → Parts → Type 0
+Inside W (Integer t n) = Unit
+Inside W (String t n) = Unit
+Inside W (Zeros t n) = Unit
+Inside W Asset = Unit
+Inside W (Integers a b c) = 8 + a + b + c ≤ 16 * W
 
 -- what is seen scheme by scheme: the zeros behind the parts are a word at most, and so is each field
 pub record Sizes (s : Scheme) (p : Parts) : Type 0 where
   pub zeros : 16 * words s - endOf s ≤ 64
-  pub widths : Widths (words s) p
+  pub inside : Inside (words s) p
   pub each : AllRows (λ P r. Roomy (words s) r (shapeOf p r)) 0 rows
 
-sound : (s : Scheme) → (partsOf (partsFor (about s .parts)) ≡ about s .parts) × Sizes s (partsFor (about s .parts))
+sound : (s : Scheme) → Sizes s (partsFor (about s .parts))
 unfolding rows
-sound Sgtin96 = (refl, omega arith)
-sound Sgtin198 = (refl, omega arith)
-sound Sscc96 = (refl, omega arith)
-sound Sgln96 = (refl, omega arith)
-sound Sgln195 = (refl, omega arith)
-sound Grai96 = (refl, omega arith)
-sound Grai170 = (refl, omega arith)
-sound Giai96 = (refl, omega arith)
-sound Gsrn96 = (refl, omega arith)
-sound Gsrnp96 = (refl, omega arith)
-sound Gdti96 = (refl, omega arith)
-sound Gdti174 = (refl, omega arith)
-sound Gid96 = (refl, omega arith)
+sound Sgtin96 = omega arith
+sound Sgtin198 = omega arith
+sound Sscc96 = omega arith
+sound Sgln96 = omega arith
+sound Sgln195 = omega arith
+sound Grai96 = omega arith
+sound Grai170 = omega arith
+sound Giai96 = omega arith
+sound Gsrn96 = omega arith
+sound Gsrnp96 = omega arith
+sound Gdti96 = omega arith
+sound Gdti174 = omega arith
+sound Gid96 = omega arith
 
 -- a scheme whose parts are p
 module _ (s : Scheme) (p : Parts) (e : p ≡ partsFor (about s .parts)) where
-  pub parts-same : partsOf p ≡ about s .parts
-  parts-same = rw e (sound s .0)
-
   pub sizes : Sizes s p
-  sizes = rw e (sound s .1)
+  sizes = rw e (sound s)
 
   pub roomy : (P : ℕ) → P < 7 → Roomy (words s) (rowAt P) (shapeOf p (rowAt P))
   roomy = by-row (λ P r. Roomy (words s) r (shapeOf p r)) (sizes .each)

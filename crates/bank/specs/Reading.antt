@@ -6,14 +6,14 @@ use mathlib.Core.Option.{some}
 use lib.ListN.{length, take, drop}
 use Rattle.numeral.specs.Numeral.{spread, gather}
 use Rattle.rules.specs.declared.Scheme.{Scheme}
-use Rattle.rules.specs.Schemes.{Row, Body, F, schemes, about, words, zeroBits, prefixBits, prefixDigits}
+use Rattle.rules.specs.Schemes.{Row, schemes, about, words, zeroBits, prefixBits, prefixDigits}
 use Rattle.rules.specs.Coding.{at, wordCount, bankSize}
 use Rattle.rules.specs.BankNumbers.{headed}
 use Rattle.rules.specs.Conditions.{partitionIn, rowIn}
 use Rattle.scheme.specs.declared.lines.Parts.{Parts}
 use Rattle.scheme.specs.declared.lines.Parts.the-variants.{Integer, String, Zeros, Asset, Integers}
 use Rattle.scheme.specs.declared.rows.Cell.{Cell}
-use Rattle.scheme.specs.Lines.{partsOf, partsFor}
+use Rattle.scheme.specs.Lines.{partsFor, Tabled}
 use Rattle.scheme.specs.Rows.{prefixOf, referenceOf, assetOf}
 use Rattle.bank.specs.Reader.{codeField}
 use Rattle.bank.specs.declared.reading.Company.{Company}
@@ -38,10 +38,6 @@ pub record Coded (b : List ℕ) (s : Scheme) (p : Parts) : Type 0 where
   pub header : headed (at b 0x20 8) schemes ≡ some s
   pub zeros : codeField b (endOf s) (16 * words s - endOf s) ≡ 0
   pub parts : p ≡ partsFor (about s .parts)
-
--- the parts are a filter and a partition table
-abbrev pub Tabled : Parts → Type 0
-Tabled p = (body : Body) × (partsOf p ≡ F body)
 
 -- what is read up to the company prefix
 abbrev pub companyOf : List ℕ → Company

@@ -20,9 +20,9 @@ ghost use Rattle.rules.specs.Schemes.{zeroBits, rowAt};
 ghost use Rattle.rules.specs.Coding.{wordCount, bankSize};
 ghost use Rattle.rules.specs.BankNumbers.{tagOfBank, stringIn};
 ghost use Rattle.alphabet.specs.Strings.{countOf};
-ghost use Rattle.scheme.specs.Lines.{partsOf};
+ghost use Rattle.scheme.specs.Lines.{partsOf, Tabled};
 ghost use Rattle.scheme.specs.Records.{readingOf};
-ghost use Rattle.bank.specs.Reading.{Clean, Coded, Tabled, Begun, shapeOf, groupsAt};
+ghost use Rattle.bank.specs.Reading.{Clean, Coded, Begun, shapeOf, groupsAt};
 
 const POWERS: [u64; 13] = [
     1,

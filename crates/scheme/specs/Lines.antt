@@ -1,5 +1,5 @@
 -- A line of the schemes' table as the code holds it, and what a header names.
-use Prim.Native.Nat.{ℕ, _≤_}
+use Prim.Native.Nat.{ℕ, _*_, _/_, _≤_, _<_}
 use mathlib.Core.Path.{_≡_}
 use mathlib.Core.Option.{Option, none, some}
 use Rattle.rules.specs.declared.Scheme.{Scheme}
@@ -34,13 +34,13 @@ partsFor (integers a b c) = Integers a b c
 abbrev pub Tabled : Parts → Type 0
 Tabled p = (body : Body) × (partsOf p ≡ F body)
 
--- an integer is below 2 ^ 62, a string has at most twenty characters
+-- an integer has at most 57 bits, a string is some whole groups of seven bits, at most twenty, and at most 24 zeros follow
 abbrev pub Narrow : Parts → Type 0
-Narrow (Integer t n) = n ≤ 62
-Narrow (String t n) = n ≤ 140
-Narrow (Zeros t n) = Unit
+Narrow (Integer t n) = n ≤ 57
+Narrow (String t n) = (n ≡ 7 * (n / 7)) × (0 < n / 7) × (n / 7 ≤ 20)
+Narrow (Zeros t n) = n ≤ 24
 Narrow Asset = Unit
-Narrow (Integers a b c) = (a ≤ 62) × (b ≤ 62) × (c ≤ 62)
+Narrow (Integers a b c) = (a ≤ 57) × (b ≤ 57) × (c ≤ 57)
 
 abbrev pub lineOf : Scheme → Line
 lineOf s = record { header = about s .header; bits = about s .bits; words = words s; parts = partsFor (about s .parts) }

@@ -1,31 +1,20 @@
 -- The tests are those of the rules 13 to 15; past them the words are a code of the scheme that the header names.
-use mathlib.Core.Path.{_≡_, refl}
-use mathlib.Core.List.{List, [], _∷_}
+use mathlib.Core.Path.{_≡_}
+use mathlib.Core.List.{List}
 use Prim.Native.Nat.{ℕ}
 use native.Mathlib.Omega.{arith}
 use borrow.Author.Needs.{needs}
-use denote.Enum.Declared.{tagOf}
 use denote.Ref.{now}
 use lib.ListN.{length}
-use types.Run.{OneOf, miss}
 use Rattle.rules.specs.declared.Scheme.{Scheme}
 use Rattle.rules.proofs.BankReads.{at-lt}
 use Rattle.scheme.specs.declared.lines.Parts.{Parts}
-use Rattle.scheme.specs.declared.lines.Parts.the-variants.{Integer, String, Zeros, Asset, Integers}
-use Rattle.scheme.proofs.lines.Parts.{the-type}
-use Rattle.bank.specs.Reading.{Coded, Tabled}
+use Rattle.scheme.proofs.Widths.{tabled}
+use Rattle.bank.specs.Reading.{Coded}
 use Rattle.bank.proofs.Answers.{refuses}
 use Rattle.bank.proofs.Headers.{Ended, no-scheme, wrong-words, ended, not-zero, coded}
 use Rattle.bank.proofs.reading.coded.Statement.{statement}
 use Rattle.bank.proofs.reading.coded.Tie as tie
-
--- parts of any other variant have a partition table
-tabled : (p : Parts) → OneOf (0 ∷ 1 ∷ 2 ∷ 3 ∷ []) (tagOf the-type p) → Tabled p
-tabled (Integer t n) h = (_, refl)
-tabled (String t n) h = (_, refl)
-tabled (Zeros t n) h = (_, refl)
-tabled Asset h = (_, refl)
-tabled (Integers a b c) h = absurd (miss (0 ∷ 1 ∷ 2 ∷ 3 ∷ []) 4 tt h)
 
 coded-as : (b : List ℕ) (s : Scheme) (p q : Parts) → p ≡ q → Coded b s p → Coded b s q
 coded-as b s p q e c = rw e at c

@@ -4,30 +4,32 @@ use Prim.Native.Nat.{_+_, _≤_}
 use native.Mathlib.Omega.{arith}
 use Rattle.rules.specs.Schemes.{words}
 use Rattle.scheme.specs.declared.lines.Parts.the-variants.{Integers}
-use Rattle.bank.proofs.Sizes.{Widths, sizes}
+use Rattle.scheme.specs.Lines.{Narrow}
+use Rattle.scheme.proofs.Widths.{parts-narrow}
+use Rattle.bank.proofs.Sizes.{Inside, sizes}
 use Rattle.bank.proofs.Answers.{few-words, lies, three-integers}
 use Rattle.bank.proofs.reading.general.Statement.{statement}
 use Rattle.bank.proofs.reading.general.Tie as tie
 
 module _ (c : tie.Start) where
-  widths : Widths (words (c .args .s)) (Integers (c .args .a) (c .args .b) (c .args .c))
-  widths = sizes (c .args .s) _ (c .pre .parts) .widths
+  widths : Narrow (Integers (c .args .a) (c .args .b) (c .args .c)) × Inside (words (c .args .s)) (Integers (c .args .a) (c .args .b) (c .args .c))
+  widths = (parts-narrow (c .args .s) _ (c .pre .parts), sizes (c .args .s) _ (c .pre .parts) .inside)
 
   few : words (c .args .s) ≤ 31
   few = omega (arith, few-words _ _ _ (c .pre))
 
 field-requires : tie.Need-field-requires
-field-requires c κs = let start = c .before in lies _ _ _ (start .pre) 8 (start .args .a) (widths start .0) (omega (arith, widths start))
+field-requires c κs = let start = c .before in lies _ _ _ (start .pre) 8 (start .args .a) (omega (arith, widths start)) (omega (arith, widths start))
 
 field-requires-2 : tie.Need-field-requires-2
 field-requires-2 c κs =
     let start = c .before .before in
-    lies _ _ _ (start .pre) (8 + start .args .a) (start .args .b) (widths start .1) (omega (arith, widths start))
+    lies _ _ _ (start .pre) (8 + start .args .a) (start .args .b) (omega (arith, widths start)) (omega (arith, widths start))
 
 field-requires-3 : tie.Need-field-requires-3
 field-requires-3 c κs =
     let start = c .before .before .before in
-    lies _ _ _ (start .pre) (8 + start .args .a + start .args .b) (start .args .c) (widths start .2) (omega (arith, widths start))
+    lies _ _ _ (start .pre) (8 + start .args .a + start .args .b) (start .args .c) (omega (arith, widths start)) (omega (arith, widths start))
 
 returns : tie.Need-returns
 returns c =
