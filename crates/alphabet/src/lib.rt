@@ -6,7 +6,7 @@ ghost use mathlib.Core.List.{[], _∷_};
 ghost use Prim.Native.Nat.{_+_, _*_, _<_, _≤_};
 ghost use lib.ListN.{length, take, drop, set};
 ghost use Rattle.numeral.specs.Numeral.{splice};
-ghost use Rattle.rules.specs.Bytes.{percent, hexDigit};
+ghost use Rattle.rules.specs.Bytes.{percent};
 ghost use Rattle.rules.specs.Characters.{plain, spelling, stringText};
 ghost use Rattle.rules.specs.TextNumbers.{charactersIn};
 ghost use Rattle.rules.specs.BankNumbers.{stringIn};
@@ -179,14 +179,6 @@ pub fn read(text: &[u8], at: usize) -> Spelled
     }
 }
 
-// The upper-case hex digit of a number below 16.
-fn hex(d: u8) -> u8
-    requires { ⌜ d < 16 ⌝ }
-    ensures { λ r. ⌜ r ≡ hexDigit d ⌝ }
-{
-    table::HEX[d as usize]
-}
-
 // Writes the text of one character from index `at` on, and returns the index after it.
 fn put(out: &mut [u8], at: usize, c: u8) -> usize
     requires { ⌜ at + 3 ≤ length (now out) ⌝ }
@@ -198,8 +190,8 @@ fn put(out: &mut [u8], at: usize, c: u8) -> usize
         return at + 1;
     }
     out[at] = b'%';
-    out[at + 1] = hex(c / 16);
-    out[at + 2] = hex(c % 16);
+    out[at + 1] = digits::hex(c / 16);
+    out[at + 2] = digits::hex(c % 16);
     at + 3
 }
 

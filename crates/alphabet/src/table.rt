@@ -258,6 +258,3 @@ pub const CLASS: [u8; 256] = [
     0,
     0,
 ];
-
-// The digits of an escape.
-pub const HEX: [u8; 16] = *b"0123456789ABCDEF";

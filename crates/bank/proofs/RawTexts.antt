@@ -3,10 +3,9 @@ use Prim.Native.Nat.{ℕ, _+_, _-_, _*_, _/_, _%_, _≤_, _<_}
 use mathlib.Core.Path.{_≡_, refl, sym, ap, _∙_}
 use mathlib.Core.List.{List, [], _∷_, _++_, append-assoc}
 use native.Mathlib.Omega.{arith}
-use native.Mathlib.Numerals.{add-one}
 use lib.Dec.{lit<, lit≤}
 use lib.ListN.{length, take, drop, set, getD, length-append, length-take, length-drop}
-use lib.Seq.{take-add, take-suc, drop-at, drop-cons, length-take-le}
+use lib.Seq.{take-add, drop-at, drop-cons, length-take-le}
 use Rattle.numeral.specs.Numeral.{shortest, size, splice}
 use Rattle.numeral.proofs.Shortest.{length-shortest}
 use Rattle.numeral.proofs.Splices.{splice-one, splice-snoc, splice-after}
@@ -34,13 +33,6 @@ module _ (b : List ℕ) (long : 2 ≤ length b) (first : getD b 0 0 < 256) where
       let e : getD b 0 0 % 2 ≡ 1 = omega arith in
       let a : at b 0x18 8 ≡ getD b 1 0 = byte-is b 8 refl (omega arith) second in
       rw (toggle-is, e, a, drop-cons b 1 0 long)
-
--- one more byte of a copy
-pub copy-next : (l xs : List ℕ) (i j : ℕ) → j < length xs → i + length xs ≤ length l
-    → set (splice l i (take j xs)) (i + j) (getD xs j 0) ≡ splice l i (take (j + 1) xs)
-copy-next l xs i j h k =
-    rw (add-one j, take-suc xs j 0 h)
-    (splice-snoc l i (take j xs) (getD xs j 0) (i + j) (ap (i +_) (length-take-le j xs (omega arith))) (omega arith))
 
 -- `.x` and bytes in hexadecimal
 pub field-is : (l : List ℕ) (i : ℕ) (xs : List ℕ) → i + 2 + 2 * length xs ≤ length l

@@ -16,16 +16,6 @@ pub fn words(bank: &[u8]) -> usize
     (bank[0] / 8) as usize
 }
 
-// Copies all of src from index `at` on.
-fn put_bytes(out: &mut [u8], at: usize, src: &[u8])
-    requires { ⌜ at + length (now src) ≤ length (now out) ⌝ }
-    ensures { λ _. ⌜ now (out .exit) ≡ splice (now (out .entry)) at (now (src .entry)) ⌝ }
-{
-    for i in 0..src.len() {
-        out[at + i] = src[i];
-    }
-}
-
 // Writes `.x` and src in hexadecimal from index `at` on, and returns the index after it.
 fn put_field(out: &mut [u8], at: usize, src: &[u8]) -> usize
     requires { ⌜ at + 2 + 2 * length (now src) ≤ length (now out) ⌝ }
@@ -57,7 +47,7 @@ pub fn write(bank: &[u8], out: &mut [u8]) -> usize
     ensures { λ _. ⌜ now (out .exit) ≡ rawText (now (bank .entry)) ++ drop (length (rawText (now (bank .entry)))) (now (out .entry)) ⌝ }
 {
     let count = words(bank);
-    put_bytes(out, 0, b"urn:epc:raw:");
+    digits::put_bytes(out, 0, b"urn:epc:raw:");
     let total = digits::put_decimal(out, 12, (16 * count) as u64);
     let end = put_afi(out, total, bank);
     let size = 2 + 2 * count;

@@ -1,2 +1,3 @@
--- Digits in texts.
+-- Digits in texts, and pieces of them.
 pub mod Digits
+pub mod Pieces

@@ -1,4 +1,4 @@
-// Digits in texts: numbers written in decimal and bytes in hexadecimal, and runs of decimal digits read.
+// Pieces of texts: bytes, numbers in decimal and bytes in hexadecimal written, and runs of decimal digits read.
 ghost use mathlib.Core.Path.{_≡_};
 ghost use Prim.Native.Nat.{_+_, _*_, _≤_, _<_};
 ghost use lib.ListN.{length, drop};
@@ -6,6 +6,18 @@ ghost use Rattle.numeral.specs.Numeral.{value, numeral, size, shortest, splice}
 ghost use Rattle.rules.specs.Bytes.{all, digitsText, hexDigit, hexText};
 ghost use Rattle.rules.specs.TextNumbers.{isDigit};
 ghost use Rattle.digits.specs.Digits.{leadingDigits};
+ghost use Rattle.digits.specs.Pieces.{Puts};
+
+// Writes all of src from index `at` on, and returns the index after it.
+pub fn put_bytes(out: &mut [u8], at: usize, src: &[u8]) -> usize
+    requires { ⌜ at + length (now src) ≤ length (now out) ⌝ }
+    ensures { λ r. ⌜ Puts (now (src .entry)) at (now (out .entry)) r (now (out .exit)) ⌝ }
+{
+    for i in 0..src.len() {
+        out[at + i] = src[i];
+    }
+    at + src.len()
+}
 
 // Writes v in decimal, most significant digit first, from index `at` on with no leading zero, and returns the index after it.
 pub fn put_decimal(out: &mut [u8], at: usize, v: u64) -> usize

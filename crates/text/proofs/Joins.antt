@@ -4,18 +4,18 @@ use mathlib.Core.Path.{_≡_, refl, sym, ap, _∙_}
 use mathlib.Core.List.{List, [], _∷_, _++_, append-assoc, append-nil}
 use mathlib.Core.Logic.{⊎-elim}
 use native.Mathlib.Nat.{zero-add}
-use native.Mathlib.Numerals.{add-one}
 use native.Mathlib.Omega.{arith}
 use lib.Dec.{lit<}
-use lib.ListN.{length, take, drop, getD, set, length-append, drop-of-length-le}
-use lib.Seq.{take-all, take-suc, length-take-le}
+use lib.ListN.{length, drop, set, length-append, drop-of-length-le}
+use lib.Seq.{take-all}
 use Rattle.numeral.specs.Numeral.{numeral, size, shortest, splice}
 use Rattle.numeral.proofs.Arithmetic.{lt-or-ge}
 use Rattle.numeral.proofs.Values.{length-numeral}
 use Rattle.numeral.proofs.Shortest.{length-shortest}
-use Rattle.numeral.proofs.Splices.{splice-one, splice-snoc, splice-splice}
+use Rattle.numeral.proofs.Splices.{splice-one, splice-splice}
 use Rattle.digits.proofs.Texts.{length-text}
-use Rattle.text.specs.Writing.{Puts, integerText, numberText}
+use Rattle.digits.specs.Pieces.{Puts}
+use Rattle.text.specs.Writing.{integerText, numberText}
 
 -- past the end of a list a splice appends
 splice-past : (s : List ℕ) (p : ℕ) (x : List ℕ) → length s ≤ p → splice s p x ≡ s ++ x
@@ -49,9 +49,3 @@ integer-put v e f = record { end = rw (length-text (shortest 10 v), length-short
 
 pub number-put : (n v : ℕ) {s t : List ℕ} (at : ℕ) → t ≡ splice s at (numberText n v) → Puts (numberText n v) at s (at + n) t
 number-put n v at f = record { end = rw (length-text (numeral 10 n v), length-numeral 10 n v); bytes = f }
-
--- the first i bytes of x are copied; the next one follows
-pub copy-more : (s x : List ℕ) (at i : ℕ) → i < length x → at + length x ≤ length s
-    → set (splice s at (take i x)) (at + i) (getD x i 0) ≡ splice s at (take (i + 1) x)
-copy-more s x at i h k =
-    splice-snoc s at (take i x) (getD x i 0) (at + i) (rw (length-take-le i x (omega arith))) (omega arith) ∙ rw (add-one i, take-suc x i 0 h)

@@ -23,7 +23,8 @@ use Rattle.scheme.specs.Records.{RecordIs, HasTag, Writes, recordOf, padded}
 use Rattle.scheme.proofs.Widths.{parts-same, parts-narrow}
 use Rattle.scheme.proofs.Shapes.{Partitioned, partitioned, reference-and-last, reference-alone, asset-alone, general}
 use Rattle.text.proofs.Joins.{from-start}
-use Rattle.text.specs.Writing.{Puts, Company, integerText, companyText, tableText, integersText}
+use Rattle.digits.specs.Pieces.{Puts}
+use Rattle.text.specs.Writing.{Company, integerText, companyText, tableText, integersText}
 
 -- A part that fits is the numeral of its value.
 whole : (b : ℕ) (p : List ℕ) → Fit (integer b) p → shortest 10 (value 10 p) ≡ p

@@ -1,18 +1,11 @@
 -- What writing a record leaves: the text of its tag; piece by piece, the record's values.
-use Prim.Native.Nat.{ℕ, _+_, _≤_, _<_}
-use mathlib.Core.Path.{_≡_}
+use Prim.Native.Nat.{ℕ, _≤_, _<_}
 use mathlib.Core.List.{List, [], _∷_, _++_}
-use lib.ListN.{length}
-use Rattle.numeral.specs.Numeral.{numeral, shortest, splice}
+use Rattle.numeral.specs.Numeral.{numeral, shortest}
 use Rattle.rules.specs.declared.Table.{Table}
 use Rattle.rules.specs.Bytes.{dot, digitsText}
 use Rattle.rules.specs.Schemes.{cell, rowOf}
 use Rattle.scheme.specs.declared.record.Record.{Record}
-
--- What the writers of the pieces tell each other: the output, which was `out`, has x from index `at` up to n, and is otherwise unchanged.
-pub record Puts (x : List ℕ) (at : ℕ) (out : List ℕ) (n : ℕ) (after : List ℕ) : Type 0 where
-  pub end : n ≡ at + length x
-  pub bytes : after ≡ splice out at x
 
 -- an integer; a number in n digits
 abbrev pub integerText : ℕ → List ℕ

@@ -1,5 +1,6 @@
 // The record of a tag to its text (document 01, "The text of a tag"). Each `put_` function writes a piece of it from index `at` on, and
 // returns the index after the piece.
+use digits::put_bytes;
 use rules::Scheme;
 use rules::Table;
 use scheme::lines;
@@ -11,17 +12,8 @@ ghost use Prim.Native.Nat.{_+_, _≤_, _<_};
 ghost use lib.ListN.{length};
 ghost use Rattle.rules.specs.Grammar.{start, label, textOf};
 ghost use Rattle.scheme.specs.Records.{HasTag, Writes};
-ghost use Rattle.text.specs.Writing.{Puts, Company, integerText, companyText, tableText, integersText};
-
-fn put_bytes(out: &mut [u8], at: usize, src: &[u8]) -> usize
-    requires { ⌜ at + length (now src) ≤ length (now out) ⌝ }
-    ensures { λ r. ⌜ Puts (now (src .entry)) at (now (out .entry)) r (now (out .exit)) ⌝ }
-{
-    for i in 0..src.len() {
-        out[at + i] = src[i];
-    }
-    at + src.len()
-}
+ghost use Rattle.digits.specs.Pieces.{Puts};
+ghost use Rattle.text.specs.Writing.{Company, integerText, companyText, tableText, integersText};
 
 fn put_byte(out: &mut [u8], at: usize, b: u8) -> usize
     requires { ⌜ at < length (now out) ⌝ }

@@ -49,7 +49,7 @@ returns c =
     let count = start .before .before .before in
     let s = count .before .before .before in
     line-written (s .args .bank .now) (s .pre .1) (count .words .ensures) (total .put-decimal .ensures .0) (end .put-afi .ensures .0)
-    (s .args .out .now) _ _ _ _ _ (start .put-bytes .ensures) (total .put-decimal .ensures .1) (end .put-afi .ensures .1) (put .0) (put .1)
+    (s .args .out .now) _ _ _ _ _ (start .put-bytes .ensures .bytes) (total .put-decimal .ensures .1) (end .put-afi .ensures .1) (put .0) (put .1)
 
 pub write-spec : {M : Type 1} → statement M
 write-spec =

@@ -6,7 +6,7 @@ use borrow.Author.Needs.{needs}
 use Rattle.rules.specs.declared.Scheme.{Scheme}
 use Rattle.rules.specs.declared.Scheme.the-variants.{Sgtin96, Sgtin198, Sscc96, Sgln96, Sgln195, Grai96, Grai170, Giai96, Gsrn96, Gsrnp96, Gdti96, Gdti174, Gid96}
 use Rattle.rules.specs.Grammar.{label}
-use Rattle.text.specs.Writing.{Puts}
+use Rattle.digits.specs.Pieces.{Puts}
 use Rattle.text.proofs.writing.put_label.Statement.{statement}
 use Rattle.text.proofs.writing.put_label.Tie as tie
 

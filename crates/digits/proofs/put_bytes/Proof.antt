@@ -6,9 +6,9 @@ use lib.Seq.{take-all}
 use borrow.Author.Needs.{needs}
 use Rattle.numeral.specs.Numeral.{splice}
 use Rattle.numeral.proofs.Splices.{splice-nil}
-use Rattle.text.proofs.Joins.{copy-more}
-use Rattle.text.proofs.writing.put_bytes.Statement.{statement}
-use Rattle.text.proofs.writing.put_bytes.Tie as tie
+use Rattle.digits.proofs.Copies.{copy-more}
+use Rattle.digits.proofs.put_bytes.Statement.{statement}
+use Rattle.digits.proofs.put_bytes.Tie as tie
 
 abbrev Inv-loop : tie.InvT-loop
 Inv-loop out₀ at src i₀ i-end out i = (i ≤ length src) × (length out ≡ length out₀) × (out ≡ splice out₀ at (take i src))
