@@ -10,14 +10,22 @@ ghost use Rattle.rules.specs.Bytes.{percent};
 ghost use Rattle.rules.specs.Characters.{plain, spelling, stringText};
 ghost use Rattle.rules.specs.TextNumbers.{charactersIn};
 ghost use Rattle.rules.specs.BankNumbers.{stringIn};
-ghost use Rattle.alphabet.specs.Strings.{classOf, spelledOf, countOf};
+ghost use Rattle.alphabet.specs.Strings.{classOf, classTable, spelledOf, countOf};
 ghost use Rattle.alphabet.specs.Readers.{partOf, Kept, escapeIn, foundOf, Width};
 
+// The class of each byte, by its value: made once for a string, and lent to all who read or write it.
+fn class_table() -> [u8; 256]
+    ensures { λ r. ⌜ r ≡ classTable ⌝ }
+{
+    table::CLASS
+}
+
 // The class of a byte.
-pub fn class(c: u8) -> u8
+fn class(classes: &[u8], c: u8) -> u8
+    requires { ⌜ now classes ≡ classTable ⌝ }
     ensures { λ r. ⌜ r ≡ classOf c ⌝ }
 {
-    table::CLASS[c as usize]
+    classes[c as usize]
 }
 
 // What a text spells: the number of its characters, and the first twenty of them, zeros behind; or that its form is wrong.
@@ -74,12 +82,12 @@ fn character_at(text: &[u8], at: usize) -> Found
 }
 
 // How many bytes the character at `at` takes, 0 where none begins there.
-fn width(text: &[u8], at: usize) -> usize
-    requires { ⌜ at < length (now text) ⌝ }
+fn width(text: &[u8], at: usize, classes: &[u8]) -> usize
+    requires { ⌜ (at < length (now text)) × (now classes ≡ classTable) ⌝ }
     ensures { λ r. ⌜ Width (now (text .entry)) at r ⌝ }
 {
     let b = text[at];
-    if class(b) == 1 {
+    if class(classes, b) == 1 {
         return 1;
     }
     if b != b'%' {
@@ -93,14 +101,14 @@ fn width(text: &[u8], at: usize) -> usize
 
 // Counts the characters from `at` on, where n are counted already, and keeps none. It is a loop, and `escape` goes on here
 // once the room is full: so the two readers call each other no more often than there is room, however long the text is.
-fn rest(text: &[u8], at: usize, n: usize) -> Part
-    requires { ⌜ (at ≤ length (now text)) × (n ≤ at) ⌝ }
+fn rest(text: &[u8], at: usize, n: usize, classes: &[u8]) -> Part
+    requires { ⌜ (at ≤ length (now text)) × (n ≤ at) × (now classes ≡ classTable) ⌝ }
     ensures { λ r. ⌜ r ≡ partOf n (charactersIn (drop at (now (text .entry)))) ⌝ }
 {
     let mut i = at;
     let mut m = n;
     while i < text.len() {
-        let w = width(text, i);
+        let w = width(text, i, classes);
         if w == 0 {
             return Part::Wrong;
         }
@@ -121,8 +129,8 @@ fn keep(kept: &mut [u8], n: usize, c: u8)
 
 // "A plain character and an escape may follow each other freely" (document 01): two readers that call each other.
 // This one reads characters that stand for themselves, and goes on with `escape` at a percent sign.
-fn plain_run(text: &[u8], at: usize, n: usize, kept: &mut [u8]) -> Part
-    requires { ⌜ (at ≤ length (now text)) × (n ≤ at) ⌝ }
+fn plain_run(text: &[u8], at: usize, n: usize, kept: &mut [u8], classes: &[u8]) -> Part
+    requires { ⌜ (at ≤ length (now text)) × (n ≤ at) × (now classes ≡ classTable) ⌝ }
     ensures { λ r. ⌜ r ≡ partOf n (charactersIn (drop at (now (text .entry)))) ⌝ }
     ensures { λ _. ⌜ Kept (charactersIn (drop at (now (text .entry)))) n (now (kept .entry)) (now (kept .exit)) ⌝ }
 {
@@ -130,12 +138,12 @@ fn plain_run(text: &[u8], at: usize, n: usize, kept: &mut [u8]) -> Part
     let mut m = n;
     while i < text.len() {
         let b = text[i];
-        if class(b) == 1 {
+        if class(classes, b) == 1 {
             keep(kept, m, b);
             m += 1;
             i += 1;
         } else if b == b'%' {
-            return escape(text, i + 1, m, kept);
+            return escape(text, i + 1, m, kept, classes);
         } else {
             return Part::Wrong;
         }
@@ -144,8 +152,8 @@ fn plain_run(text: &[u8], at: usize, n: usize, kept: &mut [u8]) -> Part
 }
 
 // Reads an escape whose percent sign stands before `at`, and goes on with `plain_run`.
-fn escape(text: &[u8], at: usize, n: usize, kept: &mut [u8]) -> Part
-    requires { ⌜ (at ≤ length (now text)) × (n < at) ⌝ }
+fn escape(text: &[u8], at: usize, n: usize, kept: &mut [u8], classes: &[u8]) -> Part
+    requires { ⌜ (at ≤ length (now text)) × (n < at) × (now classes ≡ classTable) ⌝ }
     ensures { λ r. ⌜ r ≡ partOf n (charactersIn (percent ∷ drop at (now (text .entry)))) ⌝ }
     ensures { λ _. ⌜ Kept (charactersIn (percent ∷ drop at (now (text .entry)))) n (now (kept .entry)) (now (kept .exit)) ⌝ }
 {
@@ -154,9 +162,9 @@ fn escape(text: &[u8], at: usize, n: usize, kept: &mut [u8]) -> Part
     };
     if n < kept.len() {
         kept[n] = c;
-        return plain_run(text, at + 2, n + 1, kept);
+        return plain_run(text, at + 2, n + 1, kept, classes);
     }
-    rest(text, at + 2, n + 1)
+    rest(text, at + 2, n + 1, classes)
 }
 
 // Reads the string part that stands from `at` on to the end of the text.
@@ -164,8 +172,9 @@ pub fn read(text: &[u8], at: usize) -> Spelled
     requires { ⌜ at ≤ length (now text) ⌝ }
     ensures { λ r. ⌜ r ≡ spelledOf (charactersIn (drop at (now (text .entry)))) ⌝ }
 {
+    let classes = class_table();
     let mut characters = [0u8; 20];
-    match plain_run(text, at, 0, &mut characters) {
+    match plain_run(text, at, 0, &mut characters, &classes) {
         Part::Characters(count) => Spelled {
             right: true,
             count,
@@ -180,12 +189,12 @@ pub fn read(text: &[u8], at: usize) -> Spelled
 }
 
 // Writes the text of one character from index `at` on, and returns the index after it.
-fn put(out: &mut [u8], at: usize, c: u8) -> usize
-    requires { ⌜ at + 3 ≤ length (now out) ⌝ }
+fn put(out: &mut [u8], at: usize, c: u8, classes: &[u8]) -> usize
+    requires { ⌜ (at + 3 ≤ length (now out)) × (now classes ≡ classTable) ⌝ }
     ensures { λ r. ⌜ r ≡ at + length (spelling (plain c) c) ⌝ }
     ensures { λ _. ⌜ now (out .exit) ≡ splice (now (out .entry)) at (spelling (plain c) c) ⌝ }
 {
-    if class(c) == 1 {
+    if class(classes, c) == 1 {
         out[at] = c;
         return at + 1;
     }
@@ -201,10 +210,11 @@ pub fn write(characters: &[u8], n: usize, out: &mut [u8], at: usize) -> usize
     ensures { λ r. ⌜ r ≡ at + length (stringText (take n (now (characters .entry)))) ⌝ }
     ensures { λ _. ⌜ now (out .exit) ≡ splice (now (out .entry)) at (stringText (take n (now (characters .entry)))) ⌝ }
 {
+    let classes = class_table();
     let mut p = at;
     let mut j = 0;
     while j < n {
-        p = put(out, p, characters[j]);
+        p = put(out, p, characters[j], &classes);
         j += 1;
     }
     p
@@ -215,6 +225,7 @@ pub fn count(groups: [u8; 20], k: usize) -> usize
     requires { ⌜ k ≤ 20 ⌝ }
     ensures { λ r. ⌜ r ≡ countOf (stringIn (take k groups)) ⌝ }
 {
+    let classes = class_table();
     let mut n = 0;
     let mut i = 0;
     while i < k {
@@ -223,7 +234,7 @@ pub fn count(groups: [u8; 20], k: usize) -> usize
             if n < i {
                 return 0;
             }
-            if class(g) == 0 {
+            if class(&classes, g) == 0 {
                 return 0;
             }
             n = i + 1;

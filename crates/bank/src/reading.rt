@@ -24,27 +24,26 @@ ghost use Rattle.scheme.specs.Lines.{partsOf, Tabled};
 ghost use Rattle.scheme.specs.Records.{readingOf};
 ghost use Rattle.bank.specs.Reading.{Clean, Coded, Begun, shapeOf, groupsAt};
 
-const POWERS: [u64; 13] = [
-    1,
-    10,
-    100,
-    1000,
-    10000,
-    100000,
-    1000000,
-    10000000,
-    100000000,
-    1000000000,
-    10000000000,
-    100000000000,
-    1000000000000,
-];
-
+// Ten to the power of a number of digits.
 fn power(digits: usize) -> u64
     requires { ⌜ digits ≤ 12 ⌝ }
     ensures { λ r. ⌜ r ≡ 10 ^ digits ⌝ }
 {
-    POWERS[digits]
+    match digits {
+        0 => 1,
+        1 => 10,
+        2 => 100,
+        3 => 1000,
+        4 => 10000,
+        5 => 100000,
+        6 => 1000000,
+        7 => 10000000,
+        8 => 100000000,
+        9 => 1000000000,
+        10 => 10000000000,
+        11 => 100000000000,
+        _ => 1000000000000,
+    }
 }
 
 // The zero bits at the end of the code.

@@ -35,15 +35,17 @@ pub fn put_decimal(out: &mut [u8], at: usize, v: u64) -> usize
     }
 }
 
-// Writes the n lowest digits of v from index `at` on. The calls go n deep; a part of document 01 has 12 digits at most.
+// Writes the n lowest digits of v from index `at` on, the last one first.
 pub fn put_digits(out: &mut [u8], at: usize, n: usize, v: u64)
     requires { ⌜ at + n ≤ length (now out) ⌝ }
     ensures { λ _. ⌜ now (out .exit) ≡ splice (now (out .entry)) at (digitsText (numeral 10 n v)) ⌝ }
 {
-    if 0 < n {
-        let last = n - 1;
-        put_digits(out, at, last, v / 10);
-        out[at + last] = b'0' + (v % 10) as u8;
+    let mut i = n;
+    let mut rest = v;
+    while 0 < i {
+        i -= 1;
+        out[at + i] = b'0' + (rest % 10) as u8;
+        rest = rest / 10;
     }
 }
 

@@ -28,24 +28,24 @@ use Rattle.alphabet.proofs.rest.Reads as rest-reads
 use Rattle.alphabet.proofs.+escape+plain_run.{statement}
 use Rattle.alphabet.proofs.+escape+plain_run.Tie.{close}
 
-abbrev μ-escape : Measures 2 escape-kinds.ps ℕ
+abbrev μ-escape : Measures 3 escape-kinds.ps ℕ
 μ-escape κs a = length (a .0 .now) - a .1 .0
 
-abbrev μ-plain-run : Measures 2 plain-run-kinds.ps ℕ
+abbrev μ-plain-run : Measures 3 plain-run-kinds.ps ℕ
 μ-plain-run κs a = length (a .0 .now) - a .1 .0
 
-abbrev escape-at : ℕ → In 2 escape-kinds.ps
-escape-at t = and 2 escape-kinds.ps (is 2 escape-kinds.ps μ-escape t) escape.Pre
+abbrev escape-at : ℕ → In 3 escape-kinds.ps
+escape-at t = and 3 escape-kinds.ps (is 3 escape-kinds.ps μ-escape t) escape.Pre
 
-abbrev escape-below : ℕ → In 2 escape-kinds.ps
-escape-below t = and 2 escape-kinds.ps (falls 2 escape-kinds.ps _<_ μ-escape t) escape.Pre
+abbrev escape-below : ℕ → In 3 escape-kinds.ps
+escape-below t = and 3 escape-kinds.ps (falls 3 escape-kinds.ps _<_ μ-escape t) escape.Pre
 
-abbrev plain-run-at : ℕ → In 2 plain-run-kinds.ps
-plain-run-at t = and 2 plain-run-kinds.ps (is 2 plain-run-kinds.ps μ-plain-run t) plain-run.Pre
+abbrev plain-run-at : ℕ → In 3 plain-run-kinds.ps
+plain-run-at t = and 3 plain-run-kinds.ps (is 3 plain-run-kinds.ps μ-plain-run t) plain-run.Pre
 
-abbrev plain-run-below : ℕ → In 2 plain-run-kinds.ps
+abbrev plain-run-below : ℕ → In 3 plain-run-kinds.ps
 plain-run-below t =
-    and 2 plain-run-kinds.ps (falls 2 plain-run-kinds.ps _<_ μ-plain-run t) plain-run.Pre
+    and 3 plain-run-kinds.ps (falls 3 plain-run-kinds.ps _<_ μ-plain-run t) plain-run.Pre
 
 abbrev escape-calls : ℕ → escape-lts.Claims
 escape-calls t = (
@@ -71,53 +71,55 @@ plain-run-calls t = (
 escape-returns : (t : ℕ) → escape-lts.Need-returns (escape-calls t) (escape-at t) escape.Post
 escape-returns t c =
     let called = c .before .before in
-    let a = called .before .before .before .args in
+    let a = called .before .before .before .before .args in
     rw (no-escape (a .text .now) (a .at) _ (called .character-at .ensures) (c .enum-told .given .1)) (refl, tt)
 
 -- an escape: the text goes on behind its two digits
 module _ (t : ℕ) (c : escape-lts.After-c (escape-calls t) (escape-at t) escape.Post) where
-  within : let a = c .before .before .before .before .before .args in a .at + 2 ≤ length (a .text .now)
+  within : let a = c .before .before .before .before .before .before .args in a .at + 2 ≤ length (a .text .now)
   within =
-      let a = c .before .before .before .before .before .args in
+      let a = c .before .before .before .before .before .before .args in
       escape-within (a .text .now) (a .at) _ (c .before .before .character-at .ensures) _ (search needs) (c .c .given .1)
 
-  goes-on : let a = c .before .before .before .before .before .args in
+  goes-on : let a = c .before .before .before .before .before .before .args in
       charactersIn (percent ∷ drop (a .at) (a .text .now)) ≡ put (some (c .c .given .0 .0)) (charactersIn (drop (a .at + 2) (a .text .now)))
   goes-on =
-      let a = c .before .before .before .before .before .args in
+      let a = c .before .before .before .before .before .before .args in
       at-escape (a .text .now) (a .at) _ (c .before .before .character-at .ensures) _ (c .c .given .1)
 
 escape-plain-run-requires : (t : ℕ) → escape-lts.Need-plain-run-requires (escape-calls t) (escape-at t) escape.Post
-escape-plain-run-requires t c κs = omega (arith, within t (c .before .before .before))
+escape-plain-run-requires t c κs =
+    let w = within t (c .before .before .before) in
+    (omega (arith, w), (omega (arith, w), omega arith, search needs))
 
 escape-returns-2 : (t : ℕ) → escape-lts.Need-returns-2 (escape-calls t) (escape-at t) escape.Post
 escape-returns-2 t c =
     let run = c .before .before .plain-run in
     let found = c .before .before .before .before .before .before in
-    let a = found .before .before .before .before .before .args in
+    let a = found .before .before .before .before .before .before .args in
     let o = charactersIn (drop (a .at + 2) (a .text .now)) in
     let e = goes-on t found in
     (run .ensures .0 ∙ count-more (a .n) _ o _ e, keep-more (a .n) _ _ _ _ o _ e refl (run .ensures .1))
 
 escape-rest-requires : (t : ℕ) → escape-lts.Need-rest-requires (escape-calls t) (escape-at t) escape.Post
-escape-rest-requires t c κs = (within t (c .before .before), search needs)
+escape-rest-requires t c κs = (within t (c .before .before), search needs, search needs)
 
 escape-returns-3 : (t : ℕ) → escape-lts.Need-returns-3 (escape-calls t) (escape-at t) escape.Post
 escape-returns-3 t c =
     let found = c .before .before .before in
-    let a = found .before .before .before .before .before .args in
+    let a = found .before .before .before .before .before .before .args in
     let o = charactersIn (drop (a .at + 2) (a .text .now)) in
     let p = charactersIn (percent ∷ drop (a .at) (a .text .now)) in
     (c .rest .ensures ∙ count-more (a .n) _ o p (goes-on t found), keep-full (a .n) (a .kept .now) p (c .before .if1 .left))
 
 abbrev plain-run-Inv-loop : plain-run-lts.InvT-loop
-plain-run-Inv-loop text at n kept₀ i₀ m₀ kept i m =
+plain-run-Inv-loop text at n kept₀ classes i₀ m₀ kept i m =
     (at ≤ i) × (i ≤ length text) × (m ≤ i) × (length kept ≡ length kept₀)
     × (partOf m (charactersIn (drop i text)) ≡ partOf n (charactersIn (drop at text)))
     × ((z : List ℕ) → Kept (charactersIn (drop i text)) m kept z → Kept (charactersIn (drop at text)) n kept₀ z)
 
 abbrev plain-run-μ-loop : plain-run-lts.MeasureT-loop
-plain-run-μ-loop text at n kept₀ i₀ m₀ kept i m = length text - i
+plain-run-μ-loop text at n kept₀ classes i₀ m₀ kept i m = length text - i
 
 plain-run-loop-again : (t : ℕ) → plain-run-lts.Need-loop-again (plain-run-calls t) (plain-run-at t) plain-run.Post plain-run-Inv-loop plain-run-μ-loop
 plain-run-loop-again t c =
@@ -125,7 +127,7 @@ plain-run-loop-again t c =
     let test = kept .before .before in
     let turn = test .before .before .before in
     let v = turn .before .loop in
-    let x = turn .before .before .before .before .args .text .now in
+    let x = turn .before .before .before .before .before .args .text .now in
     let o = charactersIn (drop (v .i + 1) x) in
     let e = at-plain x (v .i) (turn .loop-test .taken) (plain-class _ (sym (test .before .class .ensures) ∙ test .if1 .taken)) in (
       search needs,
@@ -143,7 +145,7 @@ plain-run-returns t c =
     let test = c .before .before .before .before in
     let turn = test .before .before .before .before in
     let v = turn .before .loop in
-    let x = turn .before .before .before .before .args .text .now in
+    let x = turn .before .before .before .before .before .args .text .now in
     let e = at-percent x (v .i) (turn .loop-test .taken) (test .if2 .taken) in
     (reader .ensures .0 ∙ rw (← e) (v .inv .4), v .inv .5 _ (rw e (reader .ensures .1)))
 
@@ -152,14 +154,14 @@ plain-run-returns-2 t c =
     let classed = c .before .before in
     let turn = classed .before .before in
     let v = turn .before .loop in
-    let x = turn .before .before .before .before .args .text .now in
+    let x = turn .before .before .before .before .before .args .text .now in
     let e = at-other x (v .i) (turn .loop-test .taken) (other-class _ λ q. c .before .if1 .left (classed .class .ensures ∙ q)) (c .if2 .left) in
     (rw e at (v .inv .4), v .inv .5 _ (rw e tt))
 
 plain-run-returns-3 : (t : ℕ) → plain-run-lts.Need-returns-3 (plain-run-calls t) (plain-run-at t) plain-run.Post plain-run-Inv-loop plain-run-μ-loop
 plain-run-returns-3 t c =
     let v = c .before .loop in
-    let x = c .before .before .before .before .args .text .now in
+    let x = c .before .before .before .before .before .args .text .now in
     (count-end x (v .i) (v .m) (c .loop-test .left) ∙ v .inv .4, v .inv .5 _ (rw (at-end x (v .i) (c .loop-test .left)) refl))
 
 pub +escape+plain-run-spec : {M : Type 1} → statement M

@@ -1,14 +1,15 @@
--- One test over the 256 entries, which the checker computes: each is the class of its place.
+-- What stands at a byte's place in the table is its class.
 use borrow.Author.Needs.{needs}
-use Rattle.rules.specs.Characters.{tableA1, escaped}
-use Rattle.alphabet.specs.Strings.{classOf}
-use Rattle.alphabet.proofs.Tables.{entry}
+use lib.ListN.{length}
+use Rattle.alphabet.proofs.Tables.{class-at, all-classes}
 use Rattle.alphabet.proofs.class.Statement.{statement}
 use Rattle.alphabet.proofs.class.Tie as tie
 
+inside : tie.Need-shared-slice-read-result
+inside c = rw (c .before .pre, all-classes) (search needs)
+
 returns : tie.Need-returns
-unfolding classOf tableA1 escaped
-returns c = entry classOf 256 (c .args .c) (search needs)
+returns c = rw (c .before .pre) (class-at (c .before .args .c) (search needs))
 
 pub class-spec : {M : Type 1} → statement M
-class-spec = tie.close (tie.spec (λ c. search needs) returns)
+class-spec = tie.close (tie.spec inside returns)

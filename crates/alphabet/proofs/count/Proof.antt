@@ -11,10 +11,10 @@ use Rattle.alphabet.proofs.count.Statement.{statement}
 use Rattle.alphabet.proofs.count.Tie as tie
 
 abbrev Inv-loop : tie.InvT-loop
-Inv-loop k groups n₀ i₀ n i = (i ≤ k) × Counted groups i n
+Inv-loop k groups classes n₀ i₀ n i = (i ≤ k) × Counted groups i n
 
 abbrev μ-loop : tie.MeasureT-loop
-μ-loop k groups n₀ i₀ n i = k - i
+μ-loop k groups classes n₀ i₀ n i = k - i
 
 twenty : (c : tie.Start Inv-loop μ-loop) → length (c .args .t1) ≡ 20
 twenty c = omega (arith, c .good .0)
@@ -23,23 +23,23 @@ nonzero-after-zero : tie.Need-returns Inv-loop μ-loop
 nonzero-after-zero c =
     let loop = c .before .before .before in
     let v = loop .loop in
-    after-zero _ (v .i) _ (c .before .before .loop-test .taken) (omega (arith, twenty (loop .before))) (c .before .if1 .taken) (v .n) (v .inv .1) (c .if2 .taken)
+    after-zero _ (v .i) _ (c .before .before .loop-test .taken) (omega (arith, twenty (loop .before .before))) (c .before .if1 .taken) (v .n) (v .inv .1) (c .if2 .taken)
 
 no-character : tie.Need-returns-2 Inv-loop μ-loop
 no-character c =
-    let test = c .before .before .before in
+    let test = c .before .before .before .before in
     let loop = test .before .before in
-    wrong-group _ (loop .loop .i) _ (test .before .loop-test .taken) (omega (arith, twenty (loop .before))) (test .if1 .taken)
+    wrong-group _ (loop .loop .i) _ (test .before .loop-test .taken) (omega (arith, twenty (loop .before .before))) (test .if1 .taken)
     (no-class _ (sym (c .before .class .ensures) ∙ c .if3 .taken))
 
 loop-again : tie.Need-loop-again Inv-loop μ-loop
 loop-again c =
     let loop = c .before .before in
     let v = loop .loop in
-    let inside : v .i < length (loop .before .args .t1) = omega (arith, twenty (loop .before), c .before .loop-test .taken) in (
+    let inside : v .i < length (loop .before .before .args .t1) = omega (arith, twenty (loop .before .before), c .before .loop-test .taken) in (
       search needs,
       ⊎-elim
-          (λ w. rw (w .4) (next-character _ (v .i) (v .n) inside (v .inv .1) (w .1 .left) (some-class _ λ e. w .3 .left (w .2 .ensures ∙ e))))
+          (λ w. rw (w .5) (next-character _ (v .i) (v .n) inside (v .inv .1) (w .1 .left) (some-class _ λ e. w .4 .left (w .3 .ensures ∙ e))))
           (λ w. rw (w .1) (next-zero _ (v .i) (v .n) inside (v .inv .1) (w .0 .left)))
           (c .if1 .came),
     )
@@ -48,9 +48,9 @@ end : tie.Need-returns-3 Inv-loop μ-loop
 end c =
     let loop = c .before in
     let v = loop .loop in
-    let a = loop .before .args in
+    let a = loop .before .before .args in
     let e : v .i ≡ a .k = omega (arith, c .loop-test .left) in
-    rw (← e) (counted-end (a .t1) (v .i) (v .n) (omega (arith, twenty (loop .before))) (v .inv .1))
+    rw (← e) (counted-end (a .t1) (v .i) (v .n) (omega (arith, twenty (loop .before .before))) (v .inv .1))
 
 pub count-spec : {M : Type 1} → statement M
 count-spec =
@@ -58,9 +58,11 @@ count-spec =
     (tie.spec
     Inv-loop
     μ-loop
+    (λ c κs. search needs)
     (λ c. (search needs, counted-none _))
     (λ c. search needs)
     nonzero-after-zero
+    (λ c. search needs)
     (λ c κs. search needs)
     no-character
     (λ c. search needs)

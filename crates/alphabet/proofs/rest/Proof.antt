@@ -10,11 +10,11 @@ use Rattle.alphabet.proofs.rest.Statement.{statement}
 use Rattle.alphabet.proofs.rest.Tie as tie
 
 abbrev Inv-loop : tie.InvT-loop
-Inv-loop text at n i₀ m₀ i m =
+Inv-loop text at n classes i₀ m₀ i m =
     (i ≤ length text) × (m ≤ i) × (partOf m (charactersIn (drop i text)) ≡ partOf n (charactersIn (drop at text)))
 
 abbrev μ-loop : tie.MeasureT-loop
-μ-loop text at n i₀ m₀ i m = length text - i
+μ-loop text at n classes i₀ m₀ i m = length text - i
 
 wrong : tie.Need-returns Inv-loop μ-loop
 wrong c =
@@ -25,13 +25,13 @@ loop-again : tie.Need-loop-again Inv-loop μ-loop
 loop-again c =
     let one = c .before .width in
     let v = c .before .before .before .loop in
-    let text = c .before .before .before .before .before .args .text .now in
+    let text = c .before .before .before .before .before .before .args .text .now in
     (search needs, search needs, width-counted text (v .i) (one .result) (v .m) (one .ensures) (c .if1 .left) ∙ v .inv .2)
 
 end : tie.Need-returns-2 Inv-loop μ-loop
 end c =
     let v = c .before .loop in
-    count-end (c .before .before .before .args .text .now) (v .i) (v .m) (c .loop-test .left) ∙ v .inv .2
+    count-end (c .before .before .before .before .args .text .now) (v .i) (v .m) (c .loop-test .left) ∙ v .inv .2
 
 pub rest-spec : {M : Type 1} → statement M
 rest-spec =

@@ -1,9 +1,39 @@
--- One test over the entries, which the checker computes: each is the power of its place.
-use Prim.Native.Nat.{_^_}
-use borrow.Author.Needs.{needs}
-use Rattle.alphabet.proofs.Tables.{entry}
+-- Each arm is the power of its number, which the checker computes; at most 12 is left for the last.
+use Prim.Native.Nat.{ℕ, suc, _^_, _≤_}
+use mathlib.Core.Path.{_≡_, refl, sym, ap}
+use native.Mathlib.Omega.{arith}
 use Rattle.bank.proofs.reading.power.Statement.{statement}
 use Rattle.bank.proofs.reading.power.Tie as tie
 
+power-at : (k : ℕ) {d : ℕ} → d ≡ k → 10 ^ k ≡ 10 ^ d
+power-at k e = sym (ap (10 ^_) e)
+
+past : {k d : ℕ} → k ≤ d → ¬ (d ≡ k) → suc k ≤ d
+past l n = omega (arith, n)
+
+both-ways : {k d : ℕ} → k ≤ d → d ≤ k → d ≡ k
+both-ways l u = omega arith
+
+last : tie.Need-returns-13
+last c =
+    let r = c .match .rest in
+    let l : 12 ≤ c .before .args .digits = past (past (past (past (past (past (past (past (past (past (past (past (omega arith) (r .0 .0 .0 .0 .0 .0 .0 .0 .0 .0 .0 .1)) (r .0 .0 .0 .0 .0 .0 .0 .0 .0 .0 .1)) (r .0 .0 .0 .0 .0 .0 .0 .0 .0 .1)) (r .0 .0 .0 .0 .0 .0 .0 .0 .1)) (r .0 .0 .0 .0 .0 .0 .0 .1)) (r .0 .0 .0 .0 .0 .0 .1)) (r .0 .0 .0 .0 .0 .1)) (r .0 .0 .0 .0 .1)) (r .0 .0 .0 .1)) (r .0 .0 .1)) (r .0 .1)) (r .1) in
+    power-at 12 (both-ways l (c .before .pre))
+
 pub power-spec : {M : Type 1} → statement M
-power-spec = tie.close (tie.spec (λ c. search needs) (λ c. search needs) λ c. entry (10 ^_) 13 (c .args .digits) (search needs))
+power-spec =
+    tie.close
+    (tie.spec
+    (λ c. power-at 0 (c .match .keys1))
+    (λ c. power-at 1 (c .match .keys2))
+    (λ c. power-at 2 (c .match .keys3))
+    (λ c. power-at 3 (c .match .keys4))
+    (λ c. power-at 4 (c .match .keys5))
+    (λ c. power-at 5 (c .match .keys6))
+    (λ c. power-at 6 (c .match .keys7))
+    (λ c. power-at 7 (c .match .keys8))
+    (λ c. power-at 8 (c .match .keys9))
+    (λ c. power-at 9 (c .match .keys10))
+    (λ c. power-at 10 (c .match .keys11))
+    (λ c. power-at 11 (c .match .keys12))
+    last)
