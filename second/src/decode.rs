@@ -1,0 +1,117 @@
+//! Bank to text: each part of the scheme takes its bits and gives its characters.
+
+use crate::bank::Bank;
+use crate::bits::BitReader;
+use crate::characters;
+use crate::line::Line;
+use crate::tables::*;
+
+/// Writes the tag's text of a bank: its length, or the number of the refusal and nothing written.
+pub fn bank_to_text(bank: &[u8], out: &mut [u8]) -> Result<usize, u8> {
+    if out.len() < TEXT_ROOM {
+        return Err(refusal::OUTPUT);
+    }
+    let bank = Bank::new(bank)?;
+    let scheme = scheme_of(&bank)?;
+    let mut room = [0; TEXT_ROOM];
+    let length = Decoder::new(scheme, bank.code, &mut room).text(scheme)?;
+    out[..length].copy_from_slice(&room[..length]);
+    Ok(length)
+}
+
+/// The scheme that the control word and the header name.
+fn scheme_of(bank: &Bank) -> Result<&'static Scheme, u8> {
+    if bank.toggle() {
+        return Err(refusal::TOGGLE);
+    }
+    if bank.control & control::OTHERS != 0 {
+        return Err(refusal::CONTROL);
+    }
+    let scheme = Scheme::by_header(bank.code[0]).ok_or(refusal::HEADER)?;
+    if bank.words() != scheme.words {
+        return Err(refusal::WORDS);
+    }
+    Ok(scheme)
+}
+
+struct Decoder<'a> {
+    bits: BitReader,
+    line: Line<'a>,
+    row: &'static Row,
+}
+
+impl<'a> Decoder<'a> {
+    fn new(scheme: &Scheme, code: &[u8], room: &'a mut [u8]) -> Self {
+        let mut line = Line::new(room);
+        line.push(TAG_START);
+        line.push(scheme.name);
+        Decoder { bits: BitReader::new(code), line, row: &ROWS[0] }
+    }
+
+    fn text(mut self, scheme: &Scheme) -> Result<usize, u8> {
+        self.zeros(scheme.zero_from(), scheme.words * WORD_BITS)?;
+        self.bits.take(HEADER_BITS);
+        let mut separator = b":";
+        for part in scheme.parts {
+            self.line.push(separator);
+            self.part(part)?;
+            separator = b".";
+        }
+        Ok(self.line.length())
+    }
+
+    /// The code bits from `start` on and before `end`, 24 at the most, are zero.
+    fn zeros(&self, start: usize, end: usize) -> Result<(), u8> {
+        if start < end && self.bits.at(start, end - start) != 0 {
+            return Err(refusal::NOT_ZERO);
+        }
+        Ok(())
+    }
+
+    fn part(&mut self, part: &Part) -> Result<(), u8> {
+        match *part {
+            Part::Filter => self.integer(FILTER_BITS),
+            Part::Prefix => self.prefix(),
+            Part::Reference(table) => self.padded(self.row.reference(table), refusal::REFERENCE),
+            Part::RowInteger => self.integer(self.row.integer.bits),
+            Part::Integer(integer) => self.integer(integer.bits),
+            Part::String { bits } => self.string(bits),
+        }
+    }
+
+    fn prefix(&mut self) -> Result<(), u8> {
+        let partition = self.bits.take(PARTITION_BITS) as usize;
+        self.row = ROWS.get(partition).ok_or(refusal::PARTITION)?;
+        self.padded(self.row.prefix, refusal::PREFIX)
+    }
+
+    fn padded(&mut self, kind: Padded, number: u8) -> Result<(), u8> {
+        let value = self.bits.take(kind.bits);
+        if value >= 10u64.pow(kind.digits as u32) {
+            return Err(number);
+        }
+        self.line.padded(value, kind.digits);
+        Ok(())
+    }
+
+    fn integer(&mut self, bits: usize) -> Result<(), u8> {
+        let value = self.bits.take(bits);
+        self.line.integer(value);
+        Ok(())
+    }
+
+    /// Characters up to the first zero group or the string's end, at least one; then zeros only.
+    fn string(&mut self, bits: usize) -> Result<(), u8> {
+        let mut ended = false;
+        for place in 0..bits / CHARACTER_BITS {
+            let group = self.bits.take(CHARACTER_BITS) as u8;
+            if group == 0 && place > 0 {
+                ended = true;
+                continue;
+            }
+            let form = characters::form(group).filter(|_| !ended).ok_or(refusal::STRING)?;
+            self.line.push(form);
+        }
+        Ok(())
+    }
+}

@@ -1,0 +1,116 @@
+//! Text to bank: each part of the scheme takes its characters and gives its bits.
+
+use crate::bits::BitWriter;
+use crate::characters;
+use crate::numerals;
+use crate::tables::*;
+
+/// Writes the bank of a tag's text: its length, or the number of the refusal and nothing written.
+pub fn text_to_bank(text: &[u8], out: &mut [u8]) -> Result<usize, u8> {
+    if out.len() < BANK_ROOM {
+        return Err(refusal::OUTPUT);
+    }
+    let text = text.strip_prefix(TAG_START).ok_or(refusal::START)?;
+    let (name, text) = split(text, b':').ok_or(refusal::NAME)?;
+    let scheme = Scheme::by_name(name).ok_or(refusal::NAME)?;
+    let bank = Encoder::new(scheme, text).bank(scheme)?;
+    let length = WORD_BYTES * (1 + scheme.words);
+    out[..length].copy_from_slice(&bank[..length]);
+    Ok(length)
+}
+
+struct Encoder<'a> {
+    text: &'a [u8],
+    bits: BitWriter,
+    row: &'static Row,
+}
+
+impl<'a> Encoder<'a> {
+    fn new(scheme: &Scheme, text: &'a [u8]) -> Self {
+        let mut bits = BitWriter::new();
+        bits.push((scheme.words as u64) << control::WORD_COUNT_SHIFT, WORD_BITS);
+        bits.push(scheme.header.into(), HEADER_BITS);
+        Encoder { text, bits, row: &ROWS[0] }
+    }
+
+    /// Zeros after the parts, and fill bits, are those that the writer ends with.
+    fn bank(mut self, scheme: &Scheme) -> Result<[u8; BANK_ROOM], u8> {
+        if let Some((last, before)) = scheme.parts.split_last() {
+            for part in before {
+                let (characters, rest) = split(self.text, b'.').ok_or(part.form())?;
+                self.part(part, characters)?;
+                self.text = rest;
+            }
+            self.part(last, self.text)?;
+        }
+        Ok(self.bits.finish())
+    }
+
+    fn part(&mut self, part: &Part, characters: &[u8]) -> Result<(), u8> {
+        match *part {
+            Part::Filter => self.filter(characters),
+            Part::Prefix => self.prefix(characters),
+            Part::Reference(table) => {
+                self.padded(characters, self.row.reference(table), refusal::SECOND)
+            }
+            Part::RowInteger => self.integer(characters, self.row.integer),
+            Part::Integer(integer) => self.integer(characters, integer),
+            Part::String { bits } => self.string(characters, bits),
+        }
+    }
+
+    fn filter(&mut self, characters: &[u8]) -> Result<(), u8> {
+        let &[digit @ b'0'..=b'7'] = characters else { return Err(refusal::FILTER) };
+        self.bits.push((digit - b'0').into(), FILTER_BITS);
+        Ok(())
+    }
+
+    fn prefix(&mut self, characters: &[u8]) -> Result<(), u8> {
+        let digits = characters.len();
+        let partition = ROWS.iter().position(|row| row.prefix.digits == digits);
+        let partition = partition.ok_or(refusal::FIRST)?;
+        self.row = &ROWS[partition];
+        self.bits.push(partition as u64, PARTITION_BITS);
+        self.padded(characters, self.row.prefix, refusal::FIRST)
+    }
+
+    fn padded(&mut self, characters: &[u8], kind: Padded, number: u8) -> Result<(), u8> {
+        if characters.len() != kind.digits {
+            return Err(number);
+        }
+        let value = numerals::padded(characters).ok_or(number)?;
+        self.bits.push(value, kind.bits);
+        Ok(())
+    }
+
+    fn integer(&mut self, characters: &[u8], kind: Integer) -> Result<(), u8> {
+        let value = numerals::integer(characters, kind)?;
+        self.bits.push(value, kind.bits);
+        Ok(())
+    }
+
+    /// The whole string is read for its form, though only so many characters can be written.
+    fn string(&mut self, characters: &[u8], bits: usize) -> Result<(), u8> {
+        let (most, mut count) = (bits / CHARACTER_BITS, 0);
+        let mut rest = characters;
+        while !rest.is_empty() {
+            let (value, taken) = characters::first(rest).ok_or(refusal::LAST_FORM)?;
+            if count < most {
+                self.bits.push(value.into(), CHARACTER_BITS);
+            }
+            count += 1;
+            rest = &rest[taken..];
+        }
+        match count {
+            0 => Err(refusal::LAST_FORM),
+            _ if count > most => Err(refusal::LAST_SIZE),
+            _ => Ok(()),
+        }
+    }
+}
+
+/// What stands before the first such byte, and what stands after it.
+fn split(text: &[u8], byte: u8) -> Option<(&[u8], &[u8])> {
+    let place = text.iter().position(|&other| other == byte)?;
+    Some((&text[..place], &text[place + 1..]))
+}

@@ -1,0 +1,20 @@
+//! A second codec for the tags of docs/01-scope.md, written from that paper alone, to compare with.
+//!
+//! A scheme is a list of parts, and each part turns its characters into bits and its bits into
+//! characters; the lists and all numbers stand in `tables`. No call allocates, and none touches its
+//! output before it knows its answer.
+
+mod bank;
+mod bits;
+mod characters;
+mod decode;
+mod encode;
+mod line;
+mod numerals;
+pub mod tables;
+mod tagline;
+
+pub use bank::{raw_line, screen};
+pub use decode::bank_to_text;
+pub use encode::text_to_bank;
+pub use tagline::reply;

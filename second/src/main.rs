@@ -1,0 +1,31 @@
+//! Reads lines, writes the answer to each; memory doesn't grow with the input.
+
+use std::io::{self, BufRead, BufReader, BufWriter, Read, Write};
+
+/// A line of so many bytes has the same answer whatever follows.
+const KEPT: u64 = second::tables::TEXT_LINE as u64 + 1;
+const BUFFER: usize = 1 << 16;
+
+fn main() -> io::Result<()> {
+    let mut input = BufReader::with_capacity(BUFFER, io::stdin().lock());
+    let mut output = BufWriter::with_capacity(BUFFER, io::stdout().lock());
+    let (mut line, mut answer) = (Vec::new(), Vec::new());
+    while next_line(&mut input, &mut line)? {
+        answer.clear();
+        second::reply(&line, &mut answer);
+        output.write_all(&answer)?;
+    }
+    output.flush()
+}
+
+/// The next line without its line feed, or its first bytes; false where the input has ended.
+fn next_line(input: &mut impl BufRead, line: &mut Vec<u8>) -> io::Result<bool> {
+    line.clear();
+    let read = input.by_ref().take(KEPT).read_until(b'\n', line)?;
+    if line.last() == Some(&b'\n') {
+        line.pop();
+    } else if line.len() as u64 == KEPT {
+        input.skip_until(b'\n')?;
+    }
+    Ok(read > 0)
+}

@@ -1,0 +1,47 @@
+//! Decimal and hexadecimal digits, read.
+
+use crate::tables::Integer;
+
+/// The most digits that any integer of ours can have; their value fits 64 bits.
+const MOST_DIGITS: usize = 19;
+
+/// The value of a zero-filled number of at most 19 digits.
+pub fn padded(text: &[u8]) -> Option<u64> {
+    debug_assert!(text.len() <= MOST_DIGITS);
+    all_digits(text).then(|| value(text))
+}
+
+/// The value of a number without leading zeros, or its refusal: form before size.
+pub fn integer(text: &[u8], kind: Integer) -> Result<u64, u8> {
+    let leading_zero = text.len() > 1 && text[0] == b'0';
+    if text.is_empty() || leading_zero || !all_digits(text) {
+        return Err(kind.form);
+    }
+    if text.len() > MOST_DIGITS {
+        return Err(kind.size);
+    }
+    Some(value(text)).filter(|value| value >> kind.bits == 0).ok_or(kind.size)
+}
+
+fn all_digits(text: &[u8]) -> bool {
+    text.iter().all(u8::is_ascii_digit)
+}
+
+fn value(digits: &[u8]) -> u64 {
+    digits.iter().fold(0, |value, digit| value * 10 + u64::from(digit - b'0'))
+}
+
+/// The value of an upper-case hex digit.
+pub fn hex_value(digit: u8) -> Option<u8> {
+    match digit {
+        b'0'..=b'9' => Some(digit - b'0'),
+        b'A'..=b'F' => Some(digit - b'A' + 10),
+        _ => None,
+    }
+}
+
+/// A byte as two upper-case hex digits.
+pub fn hex_digits(byte: u8) -> [u8; 2] {
+    const DIGITS: &[u8; 16] = b"0123456789ABCDEF";
+    [DIGITS[(byte >> 4) as usize], DIGITS[(byte & 15) as usize]]
+}

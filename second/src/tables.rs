@@ -1,0 +1,268 @@
+//! Every number of document 01, typed from its tables and sentences.
+
+/// Numbers of refusals, "Numbers given, and when".
+pub mod refusal {
+    pub const OUTPUT: u8 = 1;
+    pub const START: u8 = 2;
+    pub const NAME: u8 = 3;
+    pub const FILTER: u8 = 4;
+    pub const FIRST: u8 = 5;
+    pub const SECOND: u8 = 6;
+    pub const LAST_FORM: u8 = 7;
+    pub const LAST_SIZE: u8 = 8;
+    pub const LENGTH: u8 = 9;
+    pub const NO_WORDS: u8 = 10;
+    pub const TOGGLE: u8 = 11;
+    pub const CONTROL: u8 = 12;
+    pub const HEADER: u8 = 13;
+    pub const WORDS: u8 = 14;
+    pub const NOT_ZERO: u8 = 15;
+    pub const PARTITION: u8 = 16;
+    pub const PREFIX: u8 = 17;
+    pub const REFERENCE: u8 = 18;
+    pub const STRING: u8 = 19;
+}
+
+/// The refusals of a bank whose raw line is shown.
+pub const SHOWN_RAW: std::ops::RangeInclusive<u8> = refusal::TOGGLE..=refusal::STRING;
+
+/// The least output of a call that writes a bank, and of one that writes a text.
+pub const BANK_ROOM: usize = 64;
+pub const TEXT_ROOM: usize = 160;
+
+/// The longest lines of the program: a text, and a bank in hex.
+pub const TEXT_LINE: usize = 200;
+pub const BANK_LINE: usize = 128;
+
+pub const LINE_START: &[u8] = b"urn:";
+pub const TAG_START: &[u8] = b"urn:epc:tag:";
+pub const RAW_START: &[u8] = b"urn:epc:raw:";
+
+pub const WORD_BITS: usize = 16;
+pub const WORD_BYTES: usize = WORD_BITS / 8;
+pub const HEADER_BITS: usize = 8;
+pub const FILTER_BITS: usize = 3;
+pub const PARTITION_BITS: usize = 3;
+pub const CHARACTER_BITS: usize = 7;
+
+/// The control word, addresses 10h to 1Fh: its lowest bit is 1Fh.
+pub mod control {
+    pub const WORD_COUNT_SHIFT: usize = 11;
+    pub const TOGGLE: u16 = 0x0100;
+    pub const OTHERS: u16 = 0x06FF;
+    pub const AFI: u16 = 0x00FF;
+}
+
+/// A number of so many bits, written with so many digits.
+#[derive(Clone, Copy)]
+pub struct Padded {
+    pub bits: usize,
+    pub digits: usize,
+}
+
+/// A number written without leading zeros, and its refusals in a text.
+#[derive(Clone, Copy)]
+pub struct Integer {
+    pub bits: usize,
+    pub form: u8,
+    pub size: u8,
+}
+
+/// One of the partition tables whose reference is zero-filled.
+#[derive(Clone, Copy)]
+pub enum Table {
+    A,
+    B,
+    C,
+    D,
+}
+
+/// A row of the partition tables; `references` holds the columns A to D, `integer` the column E.
+pub struct Row {
+    pub prefix: Padded,
+    pub references: [Padded; 4],
+    pub integer: Integer,
+}
+
+impl Row {
+    pub fn reference(&self, table: Table) -> Padded {
+        self.references[table as usize]
+    }
+}
+
+/// The rows by partition value; 7 has none.
+pub static ROWS: [Row; 7] = [
+    row((40, 12), [(4, 1), (18, 5), (4, 0), (1, 0)], 42),
+    row((37, 11), [(7, 2), (21, 6), (7, 1), (4, 1)], 45),
+    row((34, 10), [(10, 3), (24, 7), (10, 2), (7, 2)], 48),
+    row((30, 9), [(14, 4), (28, 8), (14, 3), (11, 3)], 52),
+    row((27, 8), [(17, 5), (31, 9), (17, 4), (14, 4)], 55),
+    row((24, 7), [(20, 6), (34, 10), (20, 5), (17, 5)], 58),
+    row((20, 6), [(24, 7), (38, 11), (24, 6), (21, 6)], 62),
+];
+
+/// A part of a scheme after its header, that a text writes.
+#[derive(Clone, Copy)]
+pub enum Part {
+    Filter,
+    /// The partition value and the company prefix; they pick the row.
+    Prefix,
+    Reference(Table),
+    /// The reference of table E.
+    RowInteger,
+    Integer(Integer),
+    String {
+        bits: usize,
+    },
+}
+
+impl Part {
+    /// The refusal of a text whose part has the wrong form.
+    pub fn form(&self) -> u8 {
+        match self {
+            Part::Filter => refusal::FILTER,
+            Part::Prefix => refusal::FIRST,
+            Part::Reference(_) => refusal::SECOND,
+            Part::Integer(integer) => integer.form,
+            Part::RowInteger | Part::String { .. } => refusal::LAST_FORM,
+        }
+    }
+}
+
+pub struct Scheme {
+    pub name: &'static [u8],
+    pub header: u8,
+    pub bits: usize,
+    pub words: usize,
+    pub parts: &'static [Part],
+    /// Zero bits after the last part, that no text writes.
+    pub zeros: usize,
+}
+
+impl Scheme {
+    /// The code bits from here to the end of the last word are zero.
+    pub fn zero_from(&self) -> usize {
+        self.bits - self.zeros
+    }
+
+    pub fn by_name(name: &[u8]) -> Option<&'static Scheme> {
+        SCHEMES.iter().find(|scheme| scheme.name == name)
+    }
+
+    pub fn by_header(header: u8) -> Option<&'static Scheme> {
+        SCHEMES.iter().find(|scheme| scheme.header == header)
+    }
+}
+
+pub static SCHEMES: [Scheme; 13] = [
+    scheme(b"sgtin-96", 0x30, 96, 6, &[F, P, A, integer(38)], 0),
+    scheme(b"sgtin-198", 0x36, 198, 13, &[F, P, A, string(140)], 0),
+    scheme(b"sscc-96", 0x31, 96, 6, &[F, P, B], 24),
+    scheme(b"sgln-96", 0x32, 96, 6, &[F, P, D, integer(41)], 0),
+    scheme(b"sgln-195", 0x39, 195, 13, &[F, P, D, string(140)], 0),
+    scheme(b"grai-96", 0x33, 96, 6, &[F, P, C, integer(38)], 0),
+    scheme(b"grai-170", 0x37, 170, 11, &[F, P, C, string(112)], 0),
+    scheme(b"giai-96", 0x34, 96, 6, &[F, P, E], 0),
+    scheme(b"gsrn-96", 0x2D, 96, 6, &[F, P, B], 24),
+    scheme(b"gsrnp-96", 0x2E, 96, 6, &[F, P, B], 24),
+    scheme(b"gdti-96", 0x2C, 96, 6, &[F, P, D, integer(41)], 0),
+    scheme(b"gdti-174", 0x3E, 174, 11, &[F, P, D, string(119)], 0),
+    scheme(b"gid-96", 0x35, 96, 6, &[first(28), second(24), integer(36)], 0),
+];
+
+const F: Part = Part::Filter;
+const P: Part = Part::Prefix;
+const A: Part = Part::Reference(Table::A);
+const B: Part = Part::Reference(Table::B);
+const C: Part = Part::Reference(Table::C);
+const D: Part = Part::Reference(Table::D);
+const E: Part = Part::RowInteger;
+
+const fn string(bits: usize) -> Part {
+    Part::String { bits }
+}
+
+const fn integer(bits: usize) -> Part {
+    Part::Integer(last(bits))
+}
+
+/// gid-96's first two parts are refused by the numbers of a prefix and of a reference.
+const fn first(bits: usize) -> Part {
+    Part::Integer(Integer { bits, form: refusal::FIRST, size: refusal::FIRST })
+}
+
+const fn second(bits: usize) -> Part {
+    Part::Integer(Integer { bits, form: refusal::SECOND, size: refusal::SECOND })
+}
+
+const fn last(bits: usize) -> Integer {
+    Integer { bits, form: refusal::LAST_FORM, size: refusal::LAST_SIZE }
+}
+
+const fn padded((bits, digits): (usize, usize)) -> Padded {
+    Padded { bits, digits }
+}
+
+const fn row(prefix: (usize, usize), [a, b, c, d]: [(usize, usize); 4], e: usize) -> Row {
+    Row {
+        prefix: padded(prefix),
+        references: [padded(a), padded(b), padded(c), padded(d)],
+        integer: last(e),
+    }
+}
+
+const fn scheme(
+    name: &'static [u8],
+    header: u8,
+    bits: usize,
+    words: usize,
+    parts: &'static [Part],
+    zeros: usize,
+) -> Scheme {
+    Scheme { name, header, bits, words, parts, zeros }
+}
+
+#[cfg(test)]
+mod tests {
+    use super::*;
+
+    fn width(part: &Part, row: &Row) -> usize {
+        match part {
+            Part::Filter => FILTER_BITS,
+            Part::Prefix => PARTITION_BITS + row.prefix.bits,
+            Part::Reference(table) => row.reference(*table).bits,
+            Part::RowInteger => row.integer.bits,
+            Part::Integer(integer) => integer.bits,
+            Part::String { bits } => *bits,
+        }
+    }
+
+    #[test]
+    fn parts_add_up_to_the_bit_total_in_every_row() {
+        for scheme in &SCHEMES {
+            for row in &ROWS {
+                let parts: usize = scheme.parts.iter().map(|part| width(part, row)).sum();
+                assert_eq!(HEADER_BITS + parts + scheme.zeros, scheme.bits);
+            }
+            assert_eq!(scheme.words, scheme.bits.div_ceil(WORD_BITS));
+        }
+    }
+
+    #[test]
+    fn digits_fit_their_bits_and_prefixes_have_no_bit_to_spare() {
+        for row in &ROWS {
+            for column in row.references.iter().chain([&row.prefix]) {
+                assert!(10u128.pow(column.digits as u32) <= 1 << column.bits);
+            }
+            assert!(10u128.pow(row.prefix.digits as u32) > 1 << (row.prefix.bits - 1));
+        }
+    }
+
+    #[test]
+    fn names_and_headers_are_told_apart() {
+        for scheme in &SCHEMES {
+            assert!(std::ptr::eq(Scheme::by_name(scheme.name).unwrap(), scheme));
+            assert!(std::ptr::eq(Scheme::by_header(scheme.header).unwrap(), scheme));
+        }
+    }
+}

@@ -1,0 +1,54 @@
+//! No call takes memory from the heap.
+
+use std::alloc::{GlobalAlloc, Layout, System};
+use std::cell::Cell;
+
+struct Counted;
+
+thread_local! {
+    static COUNT: Cell<usize> = const { Cell::new(0) };
+}
+
+unsafe impl GlobalAlloc for Counted {
+    unsafe fn alloc(&self, layout: Layout) -> *mut u8 {
+        COUNT.with(|count| count.set(count.get() + 1));
+        System.alloc(layout)
+    }
+
+    unsafe fn dealloc(&self, memory: *mut u8, layout: Layout) {
+        System.dealloc(memory, layout)
+    }
+}
+
+#[global_allocator]
+static HEAP: Counted = Counted;
+
+fn allocations(run: impl FnOnce()) -> usize {
+    let before = COUNT.with(Cell::get);
+    run();
+    COUNT.with(Cell::get) - before
+}
+
+#[test]
+fn the_counter_counts() {
+    assert!(allocations(|| drop(std::hint::black_box(vec![1u8]))) > 0);
+}
+
+#[test]
+fn no_call_allocates() {
+    let texts = ["urn:epc:tag:sgtin-198:0.0614141.812345.a%2Fb", "urn:epc:tag:gid-96:1.2.03", ""];
+    let banks = [&[0x30, 0, 0x35, 0, 0, 0, 0, 0, 0, 0, 0, 0, 0, 0][..], &[8, 0, 1, 1], &[]];
+    let (mut bank, mut text) = ([0; 64], [0; 160]);
+    let mut answer = Vec::with_capacity(1000);
+    let count = allocations(|| {
+        for input in texts.map(str::as_bytes) {
+            let _ = second::text_to_bank(input, &mut bank);
+            second::reply(input, &mut answer);
+        }
+        for input in banks {
+            let _ = second::bank_to_text(input, &mut text);
+            let _ = second::raw_line(input, &mut text);
+        }
+    });
+    assert_eq!(count, 0);
+}

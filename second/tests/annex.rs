@@ -1,0 +1,118 @@
+//! The standard's examples in docs/vectors.tsv, with the corrections noted there.
+
+mod common;
+
+use common::{bytes, decode, encode, raw, reply};
+use second::tables::{Scheme, SCHEMES};
+
+struct Vector {
+    id: String,
+    scheme: Option<&'static Scheme>,
+    tag: Option<String>,
+    code: Option<String>,
+    note: String,
+}
+
+impl Vector {
+    fn new(line: &str) -> Self {
+        let cells: Vec<&str> = line.split('\t').collect();
+        let [id, _, scheme, tag, code, _, note] = cells[..] else { panic!("{line}") };
+        let cell = |name: &str, printed: &str| {
+            let fixed = token(note, &format!("{{FIX {name}="));
+            Some(fixed.unwrap_or(printed).to_string()).filter(|cell| cell != "-")
+        };
+        Vector {
+            id: id.to_string(),
+            scheme: Scheme::by_name(scheme.as_bytes()),
+            tag: cell("tag_uri", tag),
+            code: cell("code_hex", code),
+            note: note.to_string(),
+        }
+    }
+
+    /// The refusal that the note expects of the base.
+    fn expected(&self, call: &str) -> Option<u8> {
+        token(&self.note, &format!("{{EXPECT {call}=")).map(|number| number.parse().unwrap())
+    }
+
+    /// The bank of the printed code: zeros fill its last word, or are cut off past the scheme's.
+    fn bank(&self) -> Option<Vec<u8>> {
+        let code = self.code.as_ref()?;
+        let words = self.scheme.map_or(code.len().div_ceil(4), |scheme| scheme.words);
+        let (kept, cut) = code.split_at(code.len().min(4 * words));
+        assert!(cut.bytes().all(|digit| digit == b'0'), "{}", self.id);
+        Some(bytes(&format!("{:04X}{:0<width$}", words << 11, kept, width = 4 * words)))
+    }
+}
+
+/// What stands in a note between the start of a token and its closing brace.
+fn token<'a>(note: &'a str, start: &str) -> Option<&'a str> {
+    note.split_once(start).map(|(_, rest)| rest.split_once('}').unwrap().0)
+}
+
+fn vectors() -> Vec<Vector> {
+    let path = concat!(env!("CARGO_MANIFEST_DIR"), "/../docs/vectors.tsv");
+    let file = std::fs::read_to_string(path).unwrap();
+    file.lines().skip(1).map(Vector::new).collect()
+}
+
+#[test]
+fn texts_and_codes_of_our_schemes_agree() {
+    let mut seen = Vec::new();
+    for vector in vectors() {
+        let (Some(scheme), Some(tag), Some(bank)) = (vector.scheme, &vector.tag, vector.bank())
+        else {
+            continue;
+        };
+        assert_eq!(encode(tag), Ok(bank.clone()), "{}", vector.id);
+        assert_eq!(decode(&bank), Ok(tag.clone()), "{}", vector.id);
+        seen.push(scheme.name);
+    }
+    assert_eq!(seen.len(), 14);
+    assert!(SCHEMES.iter().all(|scheme| seen.contains(&scheme.name)));
+}
+
+#[test]
+fn texts_alone_of_our_schemes_are_taken() {
+    let mut taken = 0;
+    for vector in vectors() {
+        let (Some(_), Some(tag), None) = (vector.scheme, &vector.tag, &vector.code) else {
+            continue;
+        };
+        match vector.expected("tag") {
+            Some(number) => assert_eq!(encode(tag), Err(number), "{}", vector.id),
+            None => {
+                assert_eq!(decode(&encode(tag).unwrap()), Ok(tag.clone()), "{}", vector.id);
+                taken += 1;
+            }
+        }
+    }
+    assert_eq!(taken, 2);
+}
+
+#[test]
+fn other_schemes_are_refused() {
+    let (mut texts, mut banks) = (0, 0);
+    for vector in vectors().iter().filter(|vector| vector.scheme.is_none()) {
+        if let Some(tag) = &vector.tag {
+            assert_eq!(vector.expected("tag").unwrap_or(3), 3);
+            assert_eq!(encode(tag), Err(3), "{}", vector.id);
+            texts += 1;
+        }
+        if let Some(bank) = vector.bank() {
+            assert_eq!(vector.expected("bank").unwrap_or(13), 13);
+            assert_eq!(decode(&bank), Err(13), "{}", vector.id);
+            banks += 1;
+        }
+    }
+    assert_eq!((texts, banks), (13, 27));
+}
+
+#[test]
+fn raw_lines_of_the_standard_without_their_control_fields() {
+    let code = "1234567890ABCDEF01234567";
+    assert_eq!(raw(&bytes(&format!("3601{code}"))), Ok(format!("urn:epc:raw:96.x{code}")));
+    assert_eq!(reply(format!("3601{code}").as_bytes()), format!("R 12 urn:epc:raw:96.x{code}"));
+    assert_eq!(raw(&bytes(&format!("31C1{code}"))), Ok(format!("urn:epc:raw:96.xC1.x{code}")));
+    assert_eq!(reply(format!("31C1{code}").as_bytes()), format!("R 11 urn:epc:raw:96.xC1.x{code}"));
+}

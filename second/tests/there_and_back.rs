@@ -1,0 +1,194 @@
+//! Tags made from the tables at every partition value: their bank as a row of binary digits, and each
+//! from the other. Changed texts and banks: what is taken comes back as it was.
+
+mod common;
+
+use common::{assert_pair, bytes, decode, encode_bytes, raw, Random};
+use second::tables::*;
+
+const CHARACTERS: &[u8] =
+    b"!\"%&'()*+,-./0123456789:;<=>?ABCDEFGHIJKLMNOPQRSTUVWXYZ_abcdefghijklmnopqrstuvwxyz";
+
+/// A tag as it grows: its text, and its code as a row of binary digits.
+struct Tag {
+    text: String,
+    code: String,
+    separator: char,
+}
+
+impl Tag {
+    fn part(&mut self, text: &str, value: u64, bits: usize) {
+        self.text += &format!("{}{text}", self.separator);
+        self.code += &format!("{value:0bits$b}");
+        self.separator = '.';
+    }
+
+    fn bank(&self, scheme: &Scheme) -> Vec<u8> {
+        let all = format!("{:05b}{:011b}{}", scheme.words, 0, self.code);
+        let all = format!("{all:0<width$}", width = 16 + 16 * scheme.words);
+        (0..all.len() / 8).map(|i| u8::from_str_radix(&all[8 * i..8 * i + 8], 2).unwrap()).collect()
+    }
+}
+
+/// A tag of a scheme; `pick` gives a value below a limit for each part.
+fn tag(scheme: &Scheme, partition: usize, pick: &mut impl FnMut(u64) -> u64) -> Tag {
+    let row = &ROWS[partition];
+    let name = std::str::from_utf8(scheme.name).unwrap();
+    let code = format!("{:08b}", scheme.header);
+    let mut tag = Tag { text: format!("urn:epc:tag:{name}"), code, separator: ':' };
+    for part in scheme.parts {
+        match *part {
+            Part::Filter => integer(&mut tag, 3, pick),
+            Part::Prefix => {
+                tag.code += &format!("{partition:03b}");
+                padded(&mut tag, row.prefix, pick);
+            }
+            Part::Reference(table) => padded(&mut tag, row.reference(table), pick),
+            Part::RowInteger => integer(&mut tag, row.integer.bits, pick),
+            Part::Integer(kind) => integer(&mut tag, kind.bits, pick),
+            Part::String { bits } => string(&mut tag, bits, pick),
+        }
+    }
+    tag
+}
+
+fn integer(tag: &mut Tag, bits: usize, pick: &mut impl FnMut(u64) -> u64) {
+    let value = pick(1 << bits);
+    tag.part(&value.to_string(), value, bits);
+}
+
+fn padded(tag: &mut Tag, kind: Padded, pick: &mut impl FnMut(u64) -> u64) {
+    let value = pick(10u64.pow(kind.digits as u32));
+    let text =
+        if kind.digits == 0 { String::new() } else { format!("{value:0w$}", w = kind.digits) };
+    tag.part(&text, value, kind.bits);
+}
+
+fn string(tag: &mut Tag, bits: usize, pick: &mut impl FnMut(u64) -> u64) {
+    let count = 1 + pick(bits as u64 / 7) as usize;
+    let (mut text, mut groups) = (String::new(), String::new());
+    for _ in 0..count {
+        let character = CHARACTERS[pick(CHARACTERS.len() as u64) as usize];
+        text += &match character {
+            b'"' | b'%' | b'&' | b'/' | b'<' | b'>' | b'?' => format!("%{character:02X}"),
+            _ => (character as char).to_string(),
+        };
+        groups += &format!("{character:07b}");
+    }
+    tag.text += &format!(".{text}");
+    tag.code += &format!("{groups:0<bits$}");
+}
+
+fn assert_tag(scheme: &Scheme, tag: &Tag) {
+    assert_pair(&tag.text, &tag.bank(scheme));
+}
+
+#[test]
+fn the_character_list_is_whole() {
+    assert_eq!(CHARACTERS.len(), 82);
+    assert!(CHARACTERS.windows(2).all(|pair| pair[0] < pair[1]));
+}
+
+#[test]
+fn smallest_largest_and_middle_parts_at_every_partition() {
+    for scheme in &SCHEMES {
+        for partition in 0..ROWS.len() {
+            assert_tag(scheme, &tag(scheme, partition, &mut |_| 0));
+            assert_tag(scheme, &tag(scheme, partition, &mut |limit| limit - 1));
+            assert_tag(scheme, &tag(scheme, partition, &mut |limit| limit / 2));
+        }
+    }
+}
+
+#[test]
+fn random_tags() {
+    let mut random = Random(1);
+    for round in 0..20_000 {
+        let scheme = &SCHEMES[round % SCHEMES.len()];
+        let partition = random.below(7) as usize;
+        assert_tag(scheme, &tag(scheme, partition, &mut |limit| random.below(limit)));
+    }
+}
+
+#[test]
+fn changed_texts() {
+    let mut random = Random(2);
+    let (mut taken, mut refused) = (0, [0; 9]);
+    for round in 0..60_000 {
+        let scheme = &SCHEMES[round % SCHEMES.len()];
+        let partition = random.below(7) as usize;
+        let tag = tag(scheme, partition, &mut |limit| random.below(limit));
+        let mut text = tag.text.into_bytes();
+        let place = random.below(text.len() as u64) as usize;
+        match random.below(4) {
+            0 => text[place] = random.below(256) as u8,
+            1 => text[place] = b"0123456789.:%ABCF "[random.below(18) as usize],
+            2 => text.insert(place, b"0123456789.:%ABCF "[random.below(18) as usize]),
+            _ => drop(text.remove(place)),
+        }
+        match encode_bytes(&text) {
+            Ok(bank) => {
+                assert_eq!(decode(&bank).unwrap().as_bytes(), text);
+                taken += 1;
+            }
+            Err(number) => refused[number as usize] += 1,
+        }
+    }
+    assert!(taken > 1000 && refused[2..].iter().all(|&count| count > 50), "{taken} {refused:?}");
+}
+
+#[test]
+fn changed_banks() {
+    let mut random = Random(3);
+    let (mut taken, mut refused) = (0, [0; 20]);
+    for round in 0..60_000 {
+        let scheme = &SCHEMES[round % SCHEMES.len()];
+        let partition = random.below(7) as usize;
+        let mut bank = tag(scheme, partition, &mut |limit| random.below(limit)).bank(scheme);
+        for _ in 0..=random.below(2) {
+            let bit = random.below(8 * bank.len() as u64) as usize;
+            bank[bit / 8] ^= 0x80 >> (bit % 8);
+        }
+        bank.truncate(bank.len() - (random.below(50) == 0) as usize);
+        taken += usize::from(bank_comes_back(&bank, &mut refused));
+    }
+    assert!(taken > 1000 && refused[11..].iter().all(|&count| count > 50), "{taken} {refused:?}");
+}
+
+#[test]
+fn random_codes_under_a_good_header() {
+    let mut random = Random(4);
+    let (mut taken, mut refused) = (0, [0; 20]);
+    for round in 0..60_000 {
+        let scheme = &SCHEMES[round % SCHEMES.len()];
+        let mut bank = bytes(&format!("{:04X}{:02X}", scheme.words << 11, scheme.header));
+        bank.resize_with(2 + 2 * scheme.words, || random.any() as u8);
+        if random.below(8) > 0 {
+            clear_from(&mut bank, 16 + scheme.zero_from());
+        }
+        taken += usize::from(bank_comes_back(&bank, &mut refused));
+    }
+    assert!(taken > 1000 && refused[15..].iter().all(|&count| count > 50), "{taken} {refused:?}");
+}
+
+fn clear_from(bank: &mut [u8], first: usize) {
+    for bit in first..8 * bank.len() {
+        bank[bit / 8] &= !(0x80 >> (bit % 8));
+    }
+}
+
+/// Whether a bank is taken: then its text gives it back; if not, the refusal is counted, and from 11 on
+/// there is a raw line.
+fn bank_comes_back(bank: &[u8], refused: &mut [usize; 20]) -> bool {
+    match decode(bank) {
+        Ok(text) => {
+            assert_eq!(encode_bytes(text.as_bytes()).as_deref(), Ok(bank), "{text}");
+            true
+        }
+        Err(number) => {
+            assert_eq!(raw(bank).err(), (number < 11).then_some(number));
+            refused[number as usize] += 1;
+            false
+        }
+    }
+}
