@@ -1,0 +1,161 @@
+"""Texts and banks with a fault, and the number that document 01 gives for it."""
+
+from itertools import combinations
+
+from tags import TAG_START, limit, string_value, text
+
+NO_INTEGER = ("", "00", "01", "007", ".", "1a", "a", "-1", "+1", " 1", "1 ", "1\r", "1\xB2", "0" * 30)
+NO_FILTER = ("", "8", "9", "03", "3 ", "a", "/", ":", "\xB3", "-1", "33")
+NO_PREFIX = ("", "1", "12345", "1234567890123", "061414a", "a614141", " 614141", "061\xB2141", "9" * 60)
+NO_STRING = (
+    *("", "a b", " ", "#", "$", "@", "[", "\\", "^", "`", "{", "~", "\x7F", "\x80", "\0", "a\r", '"', "&", "/"),
+    *("<", ">", "?", "%", "%2", "%%", "%25%", "a%", "a%2", "%2f", "%41", "%2E", "%2G", "%G2", "%00", "%A5", "%7E"),
+)
+BEYOND = ("9" * 19, "9" * 20, str(2**63), str(2**64), str(2**64 + 1), str(2**128), str(2**128 + 1), "1" + "0" * 40)
+
+
+def texts(tag):
+    """Numbers 2 to 8, each with the texts that are refused with it."""
+    yield 2, bad_starts(tag)
+    yield 3, bad_names(tag)
+    for place, at in enumerate(tag.written()):
+        field = tag.fields[at]
+        last = at == tag.written()[-1]
+        if field.kind == "filter":
+            yield 4, [*replaced(tag, place, NO_FILTER), cut(tag, place)]
+        elif field.kind == "prefix":
+            yield 5, [*replaced(tag, place, NO_PREFIX), cut(tag, place)]
+        elif field.kind == "reference":
+            yield 6, bad_references(tag, place, last)
+        elif field.kind == "string":
+            yield from bad_strings(tag, place, field.bits // 7)
+        elif last:
+            yield 7, replaced(tag, place, (*NO_INTEGER, "1.", "1.2", "0" + "9" * 30, "9" * 30 + "x"))
+            yield 8, replaced(tag, place, too_large(field))
+        else:
+            yield 5 + place, [*replaced(tag, place, NO_INTEGER + too_large(field)), cut(tag, place)]
+
+
+def bad_starts(tag):
+    rest = tag.text()[len(TAG_START) :]
+    starts = ("urn:", "urn:epc:id:", "urn:epc:tag;", "urn:epc:Tag:", "urn:epc:tag", "urn:epc:tag.", "urn:EPC:tag:")
+    return [start + rest for start in starts]
+
+
+def bad_names(tag):
+    name, rest = tag.scheme.name, ".".join(tag.parts())
+    spelt = ("", name.upper(), name[:-1], name[1:], name + "0", name + "\0", " " + name, name.replace("-", "_"))
+    return [TAG_START + name, TAG_START + name + "." + rest, *(text(other, tag.parts()) for other in spelt)]
+
+
+def replaced(tag, place, others):
+    """The tag's text with other characters for one part."""
+    parts = tag.parts()
+    return [text(tag.scheme.name, parts[:place] + [other] + parts[place + 1 :]) for other in others]
+
+
+def cut(tag, place):
+    """The tag's text up to the end of a part, without the dot."""
+    return text(tag.scheme.name, tag.parts()[: place + 1])
+
+
+def bad_references(tag, place, last):
+    """A reference with a digit more or less, or one that the prefix's own length makes too long or short."""
+    reference, prefix = tag.parts()[place], tag.parts()[place - 1]
+    others = [reference + "0", "9" * 60, reference + " ", reference + "\0"]
+    if reference:
+        others += [reference[:-1], reference[:-1] + "a", "-" + reference[1:], reference[:-1] + "\xB9", ""]
+    if last:
+        others += [reference + ".", reference + ".0", reference + "\r"]
+    prefixes = [other for other in (prefix[:-1], prefix + "0") if 6 <= len(other) <= 12]
+    lines = replaced(tag, place, others) + replaced(tag, place - 1, prefixes)
+    return lines if last else [*lines, cut(tag, place)]
+
+
+def bad_strings(tag, place, most):
+    yield 7, replaced(tag, place, (*NO_STRING, "a" * most + " ", "a" * (most + 5) + "#", "%2F" * most + "%2"))
+    longer = ("a" * (most + 1), "." * (most + 1), "%2F" * (most + 1), "%3Ca" * most, "z" * 2 * most)
+    yield 8, replaced(tag, place, longer)
+
+
+def too_large(field):
+    """Integers of more than a field's bits."""
+    numerals = (str(2**field.bits), str(2**field.bits + 1), str(10 ** len(str(2**field.bits))), *BEYOND)
+    return tuple(numeral for numeral in numerals if int(numeral) >= limit(field))
+
+
+def banks(tag):
+    """Numbers 9 to 16, each with the banks that are refused with it."""
+    bank, words = tag.bank(), tag.scheme.words
+    yield 9, ["", bank[:2], bank[:4], bank[:6], bank[:-4], bank[:-2]]
+    yield 10, [control + rest for control in ("0000", "07FF", "0100") for rest in ("", bank[4:])]
+    yield 11, [tag.bank(words << 11 | low) for low in (0x100, 0x101, 0x1FF, 0x1C1, 0x7FF, 0x500, 0x300)]
+    yield 12, [tag.bank(words << 11 | 1 << bit) for bit in range(11) if bit != 8] + [tag.bank(words << 11 | 0x6FF)]
+    yield 14, [(tag.bank(other << 11) + 124 * "0")[: 4 + 4 * other] for other in range(1, 32) if other != words]
+    yield 15, [f"{int(bank, 16) | 1 << bit:0{len(bank)}X}" for bit in range(zero_bits(tag))]
+    if tag.has("partition"):
+        other = tag.changed(tag.place("partition"), 7)
+        yield 16, [other.changed(other.place("filter"), value).bank() for value in range(8)]
+
+
+def zero_bits(tag):
+    """How many bits at the end of the words are zero."""
+    return sum(field.bits for field in tag.fields if field.kind in ("zeros", "fill"))
+
+
+def values(tag):
+    """Numbers 17 to 19, each with the banks that are refused with it."""
+    for kind, number in (("prefix", 17), ("reference", 18)):
+        if tag.has(kind):
+            place = tag.place(kind)
+            field = tag.fields[place]
+            above = (limit(field), (limit(field) + 2**field.bits) // 2, 2**field.bits - 1)
+            yield number, [tag.changed(place, value).bank() for value in above]
+    if tag.has("string"):
+        place = tag.place("string")
+        bits = tag.fields[place].bits
+        most = bits // 7
+        strings = ([], [0] * (most - 1) + [0x61], [0, 0x61], [0x61, 0, 0x61], [0x61] * (most - 2) + [0, 0x61])
+        outside = ([0x61, 0x20], [0x40], [0x61] * (most - 1) + [0x7F], [0x23] * most, [0x61, 1], [0x7F] * most)
+        yield 19, [tag.changed(place, string_value(codes, bits)).bank() for codes in strings + outside]
+
+
+def text_pairs(tag):
+    """Texts with two faults, and the first one's number."""
+    kinds = [tag.fields[at].kind for at in tag.written()]
+    bad = {"filter": "8", "prefix": "12345", "reference": "x", "integer": "01", "string": "%"}
+    numbers = {"filter": 4, "prefix": 5, "reference": 6, "integer": 7, "string": 7}
+    faults = [(5 + i if "filter" not in kinds else numbers[kind], i, bad[kind]) for i, kind in enumerate(kinds)]
+    parts = tag.parts()
+    for (number, first, one), (_, second, other) in combinations(faults, 2):
+        both = [one if i == first else other if i == second else part for i, part in enumerate(parts)]
+        yield number, text(tag.scheme.name, both)
+        yield 3, text("gid-95", both)
+        yield 2, "urn:epc:tab:" + text("gid-95", both)[len(TAG_START) :]
+
+
+def bank_pairs(tag):
+    """Banks with two faults, or with all from one on, and the first one's number."""
+    numbers = [11, 12, 13, 14, 15, 16, 17, 18, 19]
+    absent = {16: "partition", 17: "prefix", 18: "reference", 19: "string"}
+    numbers = [number for number in numbers if number not in absent or tag.has(absent[number])]
+    numbers = [number for number in numbers if number != 15 or zero_bits(tag)]
+    for chosen in combinations(numbers, 2):
+        yield chosen[0], faulty_bank(tag, chosen)
+    for start in range(len(numbers)):
+        yield numbers[start], faulty_bank(tag, numbers[start:])
+
+
+def faulty_bank(tag, numbers):
+    """The tag's bank with the faults of these numbers."""
+    control = tag.scheme.words << 11
+    ones = {16: "partition", 17: "prefix", 18: "reference", 15: "zeros" if tag.has("zeros") else "fill"}
+    for number in numbers:
+        if number in ones:
+            place = tag.place(ones[number])
+            tag = tag.changed(place, 2 ** tag.fields[place].bits - 1)
+    tag = tag.changed(tag.place("string"), 1) if 19 in numbers else tag
+    tag = tag.changed(tag.place("header"), 0x38) if 13 in numbers else tag
+    control += (0x100 if 11 in numbers else 0) + (0x401 if 12 in numbers else 0)
+    control += 0x800 if 14 in numbers else 0
+    return tag.bank(control) + ("0000" if 14 in numbers else "")

@@ -1,0 +1,81 @@
+"""Seeded tags and lines."""
+
+import random
+
+from tags import CHARACTERS, SCHEMES, Tag, limit, partitions, string_value
+
+BYTES = [chr(byte) for byte in range(256) if byte != 0x0A]
+USUAL = "0123456789.:%ABCDEFabf-_"
+
+
+class Random:
+    """Numbers that are the same under every Python: the Mersenne Twister's own bits and nothing else."""
+
+    def __init__(self, seed):
+        self.bits = random.Random(seed).getrandbits
+
+    def below(self, limit):
+        return self.bits(64) * limit >> 64
+
+    def choice(self, items):
+        return items[self.below(len(items))]
+
+    def value(self, field):
+        """A value for a field that a text writes; half of the numbers are shorter than their field."""
+        if field.kind == "string":
+            count = 1 + self.below(field.bits // 7)
+            return string_value([self.choice(CHARACTERS) for _ in range(count)], field.bits)
+        return self.below(limit(field)) >> (self.below(field.bits) if self.below(2) else 0)
+
+    def tag(self):
+        scheme = self.choice(SCHEMES)
+        return Tag(scheme, self.choice(partitions(scheme)), self.value)
+
+
+def good(random):
+    """A tag's text or bank."""
+    tag = random.tag()
+    return tag.text() if random.below(2) else tag.bank()
+
+
+def mutated(random, tag):
+    """A tag's text or bank with one bit turned, or one character changed, put in or left out."""
+    if random.below(2):
+        bank = tag.bank()
+        turned = int(bank, 16) ^ 1 << random.below(4 * len(bank))
+        return f"{turned:0{len(bank)}X}"
+    line = tag.text() if random.below(4) else tag.bank()
+    place = random.below(len(line))
+    new = random.choice(USUAL if random.below(3) else BYTES)
+    kind = random.below(3)
+    if kind == 0:
+        return line[:place] + line[place + 1 :]
+    return line[:place] + new + line[place + (kind == 1) :]
+
+
+def random_bank(random):
+    """A bank with a scheme's header and word count and any bits after it; most have zeros where they must be."""
+    scheme = random.choice(SCHEMES)
+    code = random.bits(16 * scheme.words - 8)
+    zeros = 16 * scheme.words - scheme.bits + (24 if "zero" in scheme.parts else 0)
+    if random.below(8):
+        code = code >> zeros << zeros
+    bank = f"{scheme.words << 11:04X}{scheme.header:02X}{code:0{4 * scheme.words - 2}X}"
+    return bank + f"{random.bits(64):016X}"[: 2 * random.below(9)] if random.below(4) == 0 else bank
+
+
+def random_bytes(random):
+    """Any bytes, any hex digits, or any of a text's usual characters after the start of a tag."""
+    count = random.below(140)
+    alphabet, start = random.choice(((BYTES, ""), ("0123456789ABCDEF", ""), (USUAL, "urn:epc:tag:"), (USUAL, "urn:")))
+    return start + "".join(random.choice(alphabet) for _ in range(count))
+
+
+def line(random):
+    """Half of the lines are good; the others mutated, random banks, and random bytes, 5 to 2 to 1."""
+    kind = random.below(16)
+    if kind < 8:
+        return good(random)
+    if kind < 13:
+        return mutated(random, random.tag())
+    return random_bank(random) if kind < 15 else random_bytes(random)

@@ -1,0 +1,179 @@
+"""Tags made part by part: their texts, their banks, their raw lines.
+
+The scheme and partition tables are read from docs/01-scope.md itself, so no number of them is typed
+here, and what is made here can be held against any codec.
+"""
+
+import copy
+import pathlib
+import re
+from collections import namedtuple
+
+ROOT = pathlib.Path(__file__).resolve().parent.parent
+TAG_START = "urn:epc:tag:"
+RAW_START = "urn:epc:raw:"
+
+# Table A-1 of the standard by its 7-bit codes, and the characters that a text escapes.
+CHARACTERS = [c for c in range(0x21, 0x7B) if c not in (0x23, 0x24, 0x40, 0x5B, 0x5C, 0x5D, 0x5E, 0x60)]
+ESCAPED = b'"%&/<>?'
+assert len(CHARACTERS) == 82
+
+Scheme = namedtuple("Scheme", "name header bits words parts")
+Field = namedtuple("Field", "kind bits digits", defaults=[None])
+
+
+def document_rows(heading):
+    """The cells of the rows of document 01's table that has this heading."""
+    lines = (ROOT / "docs" / "01-scope.md").read_text(encoding="utf-8").splitlines()
+    rows = []
+    for line in lines[lines.index(heading) + 2 :]:
+        if not line.startswith("|"):
+            break
+        rows.append([cell.strip() for cell in line.strip("|").split("|")])
+    return rows
+
+
+def read_schemes():
+    rows = document_rows("| Scheme | Header | Bits | Words | Parts after the header |")
+    return [Scheme(name, int(head, 16), int(bits), int(words), parts) for name, head, bits, words, parts in rows]
+
+
+def read_partitions():
+    rows = document_rows("| P | Prefix bits/digits | A bits/digits | B | C | D | E bits |")
+    cells = [[tuple(int(n) for n in cell.split("/")) for cell in row[1:]] for row in rows]
+    return [dict(zip(("prefix", "A", "B", "C", "D", "E"), row)) for row in cells]
+
+
+SCHEMES = read_schemes()
+PARTITIONS = read_partitions()
+assert len(SCHEMES) == 13 and len(PARTITIONS) == 7
+
+
+def partitions(scheme):
+    """The partition values that a scheme can have; one that it doesn't use, for a scheme without a table."""
+    return range(len(PARTITIONS)) if "table" in scheme.parts else range(1)
+
+
+def layout(scheme, partition):
+    """The fields of a scheme's words in order, header first and fill bits last."""
+    row = PARTITIONS[partition]
+    fields = [Field("header", 8)]
+    if scheme.parts.startswith("integers"):
+        fields += [Field("integer", int(bits)) for bits in re.findall(r"\d+", scheme.parts)]
+    for part in scheme.parts.split(", "):
+        if part == "F":
+            fields.append(Field("filter", 3))
+        elif part == "table E":
+            fields += [Field("partition", 3), Field("prefix", *row["prefix"]), Field("integer", *row["E"])]
+        elif part.startswith("table"):
+            fields += [Field("partition", 3), Field("prefix", *row["prefix"]), Field("reference", *row[part[-1]])]
+        elif part.endswith("zero bits"):
+            fields.append(Field("zeros", int(part.split()[0])))
+        elif part.startswith(("integer ", "string ")):
+            fields.append(Field(part.split()[0], int(part.split()[1])))
+    fields.append(Field("fill", 16 * scheme.words - scheme.bits))
+    assert sum(field.bits for field in fields) == 16 * scheme.words
+    return fields
+
+
+def limit(field):
+    """The values of a field in a text are below this; a string has none."""
+    return 10**field.digits if field.digits is not None else 2**field.bits
+
+
+def string_value(codes, bits):
+    """The bits of a string: 7 for each character, then zeros."""
+    value = 0
+    for code in codes:
+        value = value << 7 | code
+    return value << bits - 7 * len(codes)
+
+
+def string_text(codes):
+    return "".join(f"%{code:02X}" if code in ESCAPED else chr(code) for code in codes)
+
+
+def field_text(field, value):
+    """A field as a text writes it."""
+    if field.kind == "string":
+        groups = [value >> place & 0x7F for place in range(field.bits - 7, -1, -7)]
+        return string_text([group for group in groups if group])
+    if field.digits is None:
+        return str(value)
+    return f"{value:0{field.digits}d}" if field.digits else ""
+
+
+class Tag:
+    """A tag of a scheme: `pick` gives the value of each field that a text writes."""
+
+    def __init__(self, scheme, partition, pick):
+        self.scheme, self.partition = scheme, partition
+        self.fields = layout(scheme, partition)
+        fixed = {"header": scheme.header, "partition": partition, "zeros": 0, "fill": 0}
+        self.values = [fixed[f.kind] if f.kind in fixed else pick(f) for f in self.fields]
+
+    def written(self):
+        """The places of the fields that a text writes."""
+        kinds = ("filter", "prefix", "reference", "integer", "string")
+        return [place for place, field in enumerate(self.fields) if field.kind in kinds]
+
+    def place(self, kind):
+        """The place of the last field of a kind."""
+        return max(place for place, field in enumerate(self.fields) if field.kind == kind)
+
+    def has(self, kind):
+        return any(field.kind == kind and field.bits for field in self.fields)
+
+    def changed(self, place, value):
+        """The tag with another value in one field, which the field's bits hold."""
+        assert 0 <= value < 2 ** self.fields[place].bits
+        other = copy.copy(self)
+        other.values = [*self.values[:place], value, *self.values[place + 1 :]]
+        return other
+
+    def parts(self):
+        return [field_text(self.fields[place], self.values[place]) for place in self.written()]
+
+    def text(self):
+        return text(self.scheme.name, self.parts())
+
+    def bank(self, control=None):
+        """The bank in hex; a control word other than the scheme's own may be given."""
+        code = 0
+        for field, value in zip(self.fields, self.values):
+            code = code << field.bits | value
+        control = self.scheme.words << 11 if control is None else control
+        return f"{control:04X}{code:0{4 * self.scheme.words}X}"
+
+
+def text(name, parts):
+    return TAG_START + name + ":" + ".".join(parts)
+
+
+def smallest(field):
+    return string_value([0x21], field.bits) if field.kind == "string" else 0
+
+
+def middle(field):
+    if field.kind == "string":
+        return string_value([0x4D, 0x2F, 0x2E, 0x30] * (field.bits // 28), field.bits)
+    return limit(field) // 2
+
+
+def largest(field):
+    if field.kind == "string":
+        return string_value([0x7A] * (field.bits // 7), field.bits)
+    return limit(field) - 1
+
+
+def raw_line(bank):
+    """The raw line of a bank in hex that has all its words."""
+    control = int(bank[:4], 16)
+    words = control >> 11
+    afi = f".x{control & 0xFF:02X}" if control & 0x100 else ""
+    return f"{RAW_START}{16 * words}{afi}.x{bank[4 : 4 + 4 * words]}"
+
+
+def refused(number, bank):
+    """The program's answer to a bank in hex that is refused with this number."""
+    return f"R {number} {raw_line(bank)}" if number >= 11 else f"N {number}"
