@@ -65,8 +65,8 @@ def random_bank(random):
 
 
 def random_bytes(random):
-    """Any bytes, any hex digits, or any of a text's usual characters after the start of a tag."""
-    count = random.below(140)
+    """Any bytes, any hex digits, or any of a text's usual characters after the start of a tag; some too long."""
+    count = random.below(140 if random.below(4) else 420)
     alphabet, start = random.choice(((BYTES, ""), ("0123456789ABCDEF", ""), (USUAL, "urn:epc:tag:"), (USUAL, "urn:")))
     return start + "".join(random.choice(alphabet) for _ in range(count))
 
