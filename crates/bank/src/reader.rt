@@ -47,12 +47,14 @@ pub struct Taken<'a> {
 }
 
 impl<'a> BitReader<'a> {
+    // A reader of the bank that stands at a code bit.
     pub fn new(bank: &'a [u8], at: CodeBit) -> BitReader<'a>
         ensures { λ r. ⌜ r ≡ readerOf (bank .entry) at ⌝ }
     {
         BitReader { bank, at }
     }
 
+    // Takes the next `width` bits.
     pub fn take(self, width: usize) -> Taken<'a>
         requires { ⌜ LiesInCode (self .at .0) width (length (now (self .bank))) ⌝ }
         ensures { λ t. ⌜ t ≡ takenOf (self .entry) width ⌝ }

@@ -1,6 +1,7 @@
 // The written rules: document 01 as definitions in specs/, and the theorems about them in proofs/. No code: what stands here are the
 // names that the rules and the code share.
 
+// The thirteen schemes (document 01).
 pub enum Scheme {
     Sgtin96,
     Sgtin198,

@@ -3,8 +3,10 @@ ghost use mathlib.Core.Path.{_≡_};
 ghost use Prim.Native.Nat.{_<_};
 ghost use Rattle.scheme.specs.Counts.{addressOf};
 
+// An address in the bank: the lent bank starts at 10h.
 pub struct BankAddress(pub usize);
 
+// A bit of the code: the header begins at 0.
 pub struct CodeBit(pub usize);
 
 impl CodeBit {

@@ -35,6 +35,7 @@ pub struct Line {
     pub parts: Parts,
 }
 
+// The line of a scheme.
 pub fn about(s: Scheme) -> Line
     ensures { λ r. ⌜ r ≡ lineOf s ⌝ }
 {
@@ -120,12 +121,13 @@ pub fn about(s: Scheme) -> Line
     }
 }
 
-// What a header names.
+// What a header names: a scheme of the table, or none.
 pub enum Headed {
     Is(Scheme),
     Unlisted,
 }
 
+// The scheme of a header (rule 13 where there is none).
 pub fn by_header(h: u8) -> Headed
     ensures { λ r. ⌜ r ≡ headedBy h ⌝ }
 {

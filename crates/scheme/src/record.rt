@@ -22,6 +22,7 @@ pub struct Reading {
     pub tag: Record,
 }
 
+// A refusal ("Numbers given, and when").
 pub fn refused(number: u8) -> Reading
     ensures { λ r. ⌜ r ≡ refusal number ⌝ }
 {
