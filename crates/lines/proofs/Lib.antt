@@ -1,0 +1,10 @@
+-- The laws of lines and replies.
+pub mod Hexes
+pub mod Pieces
+pub mod Starts
+pub mod Answered
+pub mod Refusals
+pub mod Screens
+pub mod Sizes
+pub mod Splits
+pub mod Passes

@@ -1,0 +1,114 @@
+-- What is written piece after piece, from an output's start on.
+use Prim.Native.Nat.{ℕ, _+_, _-_, _≤_, _<_, min}
+use Prim.Native.Char.{code}
+use mathlib.Core.Path.{_≡_, refl, sym, ap, ap₂, _∙_}
+use mathlib.Core.Logic.{⊎-elim}
+use mathlib.Core.List.{List, [], _∷_, _++_, append-assoc, append-nil}
+use native.Mathlib.Omega.{arith}
+use native.Mathlib.Nat.{zero-add}
+use native.Mathlib.Numerals.{add-one}
+use lib.Dec.{lit<}
+use lib.ListN.{length, take, drop, getD, set, length-append, length-take, length-drop, drop-of-length-le}
+use lib.Seq.{take-all, take-suc, drop-drop, append-snoc, length-take-le, getD-append-add, getD-drop}
+use borrow.Rule.Slice.PartMut.{midOf, postOf, putMid, put-same}
+use Rattle.numeral.specs.Numeral.{splice, size, shortest}
+use Rattle.numeral.proofs.Shortest.{length-shortest, size-le}
+use Rattle.numeral.proofs.Splices.{splice-one, splice-snoc, splice-after, splice-nil, drop-to-splice, length-splice}
+use Rattle.numeral.proofs.Arithmetic.{lt-or-ge}
+use Rattle.digits.proofs.Texts.{length-text}
+use Rattle.lines.specs.Replies.{space, decimal, lineR}
+use Rattle.lines.specs.Lines.{Wrote}
+
+pub splice-front : (l x : List ℕ) → splice l 0 x ≡ x ++ drop (length x) l
+unfolding splice
+splice-front l x = rw (zero-add (length x))
+
+-- a number's digits
+module _ (n : ℕ) where
+  pub decimal-long : length (decimal n) ≡ size 10 n
+  decimal-long = length-text (shortest 10 n) ∙ length-shortest 10 (lit< tt) n
+
+  pub few-digits : n < 256 → size 10 n ≤ 3
+  few-digits h = size-le 10 (lit< tt) n 3 (lit< tt) (omega arith)
+
+pub two-bytes : (l : List ℕ) (a b : ℕ) → 2 ≤ length l → set (set l 0 a) 1 b ≡ splice l 0 (a ∷ b ∷ [])
+two-bytes l a b h = rw (← splice-one l 0 a (omega arith)) (splice-snoc l 0 (a ∷ []) b 1 refl (omega arith))
+
+-- two bytes, and a piece behind them
+pub lettered : (l : List ℕ) (a b : ℕ) (x : List ℕ) → 2 ≤ length l → splice (set (set l 0 a) 1 b) 2 x ≡ splice l 0 (a ∷ b ∷ x)
+lettered l a b x h = rw (two-bytes l a b h) (splice-after l 0 (a ∷ b ∷ []) x 2 (omega arith) refl)
+
+-- a piece, and then what stands before it
+pub before-piece : (l : List ℕ) (p : ℕ) (a x : List ℕ) → length a ≡ p → p ≤ length l → splice (splice l p x) 0 a ≡ splice l 0 (a ++ x)
+before-piece l p a x e h =
+    rw (splice-front (splice l p x) a, splice-front l (a ++ x), e, drop-to-splice l p x h, append-assoc a x, length-append a x, e)
+
+-- the part of an output from a place on, as it is lent, and as it is back
+abbrev pub part : List ℕ → ℕ → List ℕ
+part l p = midOf p (length l - p) l
+
+abbrev pub back : List ℕ → ℕ → List ℕ → List ℕ
+back l p e = putMid p (length l - p) l e
+
+-- w is written at its start, or nothing
+module _ (l e : List ℕ) (p : ℕ) where
+  pub put-back : (w : List ℕ) → p ≤ length l → e ≡ w ++ drop (length w) (part l p) → back l p e ≡ splice l p w
+  unfolding splice
+  put-back w h i =
+      let m : part l p ≡ drop p l = take-all (length l - p) (drop p l) (simp length-drop (omega arith)) in
+      let k : length (drop p l) ≤ length l - p = simp length-drop (omega arith) in
+      let z : postOf p (length l - p) l ≡ [] = drop-of-length-le (drop p l) k in
+      rw (z, append-nil, i, m, drop-drop, append-assoc)
+
+  pub put-nothing : e ≡ part l p → back l p e ≡ l
+  put-nothing i = rw i (put-same p (length l - p) l)
+
+-- what is put before a piece: two bytes, or a letter with two digits and a space
+pub text-behind : (l l₁ x : List ℕ) (a : ℕ) → 2 + length x ≤ length l → l₁ ≡ splice l 2 x → set (set l₁ 0 a) 1 space ≡ splice l 0 (a ∷ space ∷ x)
+text-behind l l₁ x a h i =
+    two-bytes l₁ a space (rw (i, length-splice l 2 x h) (omega arith)) ∙ rw i (before-piece l 2 (a ∷ space ∷ []) x refl (omega arith))
+
+pub raw-behind : (l l₁ l₂ x : List ℕ) (n at : ℕ) → 5 + length x ≤ length l → size 10 n ≡ 2 → l₁ ≡ splice l 5 x → Wrote (code "R" ∷ space ∷ decimal n) l₁ at l₂
+    → set l₂ at space ≡ splice l 0 (lineR n x)
+raw-behind l l₁ l₂ x n at h two i w =
+    let d : length (decimal n) ≡ 2 = decimal-long n ∙ two in
+    let a : List ℕ = code "R" ∷ space ∷ decimal n in
+    let k : length l₁ ≡ length l = ap length i ∙ length-splice l 5 x h in
+    let f : length (a ++ (space ∷ [])) ≡ 5 = simp length-append (omega arith) in
+    ap (λ z. set z at space) (w .output)
+    ∙ splice-snoc l₁ 0 a space at (omega (arith, w .count)) (omega (arith, w .count))
+    ∙ ap (λ z. splice z 0 (a ++ (space ∷ []))) i
+    ∙ before-piece l 5 (a ++ (space ∷ [])) x f (omega arith)
+    ∙ ap (splice l 0) (append-snoc a space x)
+
+take-least : (d : List ℕ) (m n : ℕ) → n ≡ min (length d) m → take n d ≡ take m d
+take-least d m n e =
+    ⊎-elim
+    (λ (h : m < length d). let f : n ≡ m = omega arith in ap (λ k. take k d) f)
+    (λ (h : length d ≤ m). take-all n d (omega arith) ∙ sym (take-all m d h))
+    (lt-or-ge m (length d))
+
+-- bytes that are moved to the start, one more
+pub moved : (l : List ℕ) (from i : ℕ) → from + i < length l
+    → set (splice l 0 (take i (drop from l))) i (getD (splice l 0 (take i (drop from l))) (from + i) 0) ≡ splice l 0 (take (i + 1) (drop from l))
+moved l from i h =
+    let d : List ℕ = drop from l in
+    let k : length d ≡ length l - from = length-drop from l in
+    let n : length (take i d) ≡ i = length-take-le i d (omega arith) in
+    let e : from + i ≡ length (take i d) + from = omega arith in
+    let x : getD (splice l 0 (take i d)) (from + i) 0 ≡ getD d i 0 =
+    ap₂ (λ s m. getD s m 0) (splice-front l (take i d)) e ∙ getD-append-add (take i d) (drop (length (take i d)) l) from 0
+    ∙ getD-drop (length (take i d)) l from 0 ∙ ap (λ m. getD l m 0) (omega arith) ∙ sym (getD-drop from l i 0) in
+    rw (x, add-one i, take-suc d i 0 (omega arith)) (splice-snoc l 0 (take i d) (getD d i 0) i (omega arith) (omega arith))
+
+-- all that were to be moved: at most m
+pub moved-all : (l l₁ : List ℕ) (from m n : ℕ) → from ≤ length l → n ≡ min (length l - from) m → l₁ ≡ splice l 0 (take n (drop from l)) → Wrote (take m (drop from l)) l n l₁
+moved-all l l₁ from m n h e i =
+    let d : List ℕ = drop from l in
+    let k : length d ≡ length l - from = length-drop from l in
+    let w : take n d ≡ take m d = take-least d m n (omega arith) in
+    record { count = sym (length-take m d ∙ omega arith); output = i ∙ ap (splice l 0) w }
+
+-- nothing is written
+pub wrote-nothing : (l : List ℕ) → Wrote [] l 0 l
+wrote-nothing l = record { count = refl; output = sym (splice-nil l 0) }

@@ -1,0 +1,38 @@
+-- No bytes are no line.
+use Prim.Native.Nat.{ℕ}
+use mathlib.Core.Path.{_≡_, refl}
+use mathlib.Core.List.{List, [], _∷_}
+use mathlib.Core.Bool.{Bool, true, false, cond}
+use native.Mathlib.Omega.{arith}
+use lib.Dec.{leb}
+use lib.ListN.{length}
+use borrow.Author.Needs.{needs}
+use Rattle.lines.specs.Lines.{printed, lastOf}
+use Rattle.lines.proofs.Pieces.{wrote-nothing}
+use Rattle.lines.proofs.last_reply.Statement.{statement}
+use Rattle.lines.proofs.last_reply.Tie as tie
+
+no-line : (l : List ℕ) → length l ≡ 0 → lastOf l ≡ []
+no-line [] e = refl
+no-line (x ∷ l) e = absurd (omega arith)
+
+a-line : (l : List ℕ) → ¬ (length l ≡ 0) → lastOf l ≡ printed l
+a-line [] n = absurd (n refl)
+a-line (x ∷ l) n = refl
+
+either : (t : Bool) → cond {A = List ℕ} t [] [] ≡ []
+either true = refl
+either false = refl
+
+none : tie.Need-returns
+none c =
+    let s = c .before .before .before in
+    rw (no-line (s .args .rest .now) (c .if1 .taken), either (leb 165 (length (s .args .out .now)))) (wrote-nothing (s .args .out .now))
+
+some : tie.Need-returns-2
+some c =
+    let e = c .before .before .before .before in
+    rw (a-line (e .before .before .before .args .rest .now) (e .if1 .left)) (c .before .before .reply .ensures)
+
+pub last-reply-spec : {M : Type 1} → statement M
+last-reply-spec = tie.close (tie.spec none (λ c κs. search needs) (λ c. search needs) some)

@@ -1,0 +1,30 @@
+-- A bank in hex: an even number, at most 128, of upper-case hex digits.
+use Prim.Native.Nat.{ℕ, _+_, _*_, _%_}
+use mathlib.Core.List.{List, [], _∷_}
+use mathlib.Core.Option.{Option, none, some}
+use mathlib.Core.Bool.{Bool, _&&_, cond}
+use lib.Dec.{leb, eqb}
+use lib.ListN.{length}
+use Rattle.rules.specs.Bytes.{bytes, all, among, upto}
+
+unfoldable pub hexDigits : List ℕ
+hexDigits = bytes "0123456789ABCDEF"
+
+abbrev pub isHex : ℕ → Bool
+isHex c = among c hexDigits
+
+-- a digit's value is how many stand before it
+abbrev pub hexValue : ℕ → ℕ
+hexValue c = length (upto c hexDigits)
+
+-- two digits to a byte
+abbrev pub bytesIn : List ℕ → List ℕ
+bytesIn [] = []
+bytesIn (h ∷ []) = []
+bytesIn (h ∷ l ∷ t) = (16 * hexValue h + hexValue l) ∷ bytesIn t
+
+unfoldable pub isBank : List ℕ → Bool
+isBank l = leb (length l) 128 && eqb (length l % 2) 0 && all isHex l
+
+abbrev pub bankIn : List ℕ → Option (List ℕ)
+bankIn l = cond (isBank l) (some (bytesIn l)) none

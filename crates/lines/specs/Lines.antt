@@ -1,0 +1,78 @@
+-- The lines of an input, and all that is printed for it.
+use Prim.Native.Nat.{ℕ, zero, suc, _*_, _+_}
+use mathlib.Core.Path.{_≡_}
+use mathlib.Core.List.{List, [], _∷_, _++_}
+use mathlib.Core.Bool.{cond}
+use lib.Dec.{leb, eqb}
+use lib.ListN.{length, take, drop}
+use Rattle.numeral.specs.Numeral.{splice}
+use Rattle.rules.specs.Bytes.{among}
+use Rattle.lines.specs.Replies.{replyOf}
+
+abbrev pub feed : ℕ
+feed = 0x0A
+
+-- a byte before the first of the lines; a line by itself, where there is none
+abbrev pub before : ℕ → List (List ℕ) → List (List ℕ)
+before x [] = (x ∷ []) ∷ []
+before x (l ∷ ls) = (x ∷ l) ∷ ls
+
+-- a line ends at a line feed; bytes after the last line feed, if any, are a line too
+abbrev pub linesOf : List ℕ → List (List ℕ)
+linesOf [] = []
+linesOf (x ∷ xs) = let r = linesOf xs in cond (eqb feed x) ([] ∷ r) (before x r)
+
+-- it prints one line each
+abbrev pub printed : List ℕ → List ℕ
+printed l = replyOf l ++ (feed ∷ [])
+
+abbrev pub each : List (List ℕ) → List ℕ
+each [] = []
+each (l ∷ ls) = printed l ++ each ls
+
+unfoldable pub outputOf : List ℕ → List ℕ
+outputOf input = each (linesOf input)
+
+-- AN INPUT THAT IS READ IN PIECES
+
+-- how many bytes stand up to the last line feed, it included
+abbrev pub finished : List ℕ → ℕ
+finished [] = zero
+finished (x ∷ xs) = let r = suc (finished xs) in cond (among feed (x ∷ xs)) r zero
+
+-- the lines that have ended
+unfoldable pub whole : List ℕ → List ℕ
+whole input = take (finished input) input
+
+-- what is kept of the bytes from a place on: of a line of more than 200 characters, that it has more
+abbrev pub kept : ℕ → List ℕ → List ℕ
+kept from input = take 201 (drop from input)
+
+-- what is printed for the bytes after the last line feed
+abbrev pub lastOf : List ℕ → List ℕ
+lastOf [] = []
+lastOf (x ∷ xs) = printed (x ∷ xs)
+
+-- what is printed, piece by piece: for the lines that have ended; at the end, for the bytes that are left
+abbrev pub session : List ℕ → List (List ℕ) → List ℕ
+session rest [] = lastOf rest
+session rest (p ∷ ps) = let input = rest ++ p in outputOf (whole input) ++ session (kept (length (whole input)) input) ps
+
+-- WRITING
+
+-- w is written from an output's start on, the rest of the output stays, and n is the length of w
+pub record Wrote (w out : List ℕ) (n : ℕ) (after : List ℕ) : Type 0 where
+  pub count : n ≡ length w
+  pub output : after ≡ splice out 0 w
+
+-- w, if the output has room; nothing, if it is shorter
+abbrev pub ifRoom : ℕ → List ℕ → List ℕ → List ℕ
+ifRoom room out w = cond (leb room (length out)) w []
+
+-- the room for a reply: 160 bytes for a raw line, and what stands before it
+abbrev pub replyRoom : ℕ
+replyRoom = 165
+
+-- the room for the replies to an input: no line is answered by more than four times its bytes
+abbrev pub inputRoom : List ℕ → ℕ
+inputRoom input = 4 * length input + replyRoom

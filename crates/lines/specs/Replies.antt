@@ -1,0 +1,74 @@
+-- The reply to one line: `B`, `T`, `R`, `N` or `X`.
+use Prim.Native.Nat.{ℕ}
+use Prim.Native.Char.{code}
+use mathlib.Core.List.{List, [], _∷_, _++_}
+use mathlib.Core.Option.{Option, none, some}
+use mathlib.Core.Bool.{Bool, true, false, cond}
+use lib.Dec.{leb}
+use lib.ListN.{length}
+use Rattle.numeral.specs.Numeral.{shortest}
+use Rattle.rules.specs.Answers.{Answer, refused, taken}
+use Rattle.rules.specs.Bytes.{bytes, digitsText, hexText}
+use Rattle.rules.specs.Grammar.{Tag, textOf}
+use Rattle.rules.specs.Coding.{bankOf}
+use Rattle.rules.specs.TextNumbers.{after, tagOfText}
+use Rattle.rules.specs.BankNumbers.{tagOfBank}
+use Rattle.rules.specs.Raw.{rawText}
+use Rattle.rules.specs.Screen.{screen}
+use Rattle.lines.specs.Hex.{bankIn}
+
+abbrev pub space : ℕ
+space = code " "
+
+abbrev pub decimal : ℕ → List ℕ
+decimal n = digitsText (shortest 10 n)
+
+-- `B` and the bank in hex
+abbrev pub lineB : List ℕ → List ℕ
+lineB bank = bytes "B " ++ hexText bank
+
+-- `T` and the tag text
+abbrev pub lineT : List ℕ → List ℕ
+lineT text = bytes "T " ++ text
+
+-- `R`, the refusal number and the raw line
+abbrev pub lineR : ℕ → List ℕ → List ℕ
+lineR n raw = bytes "R " ++ (decimal n ++ space ∷ raw)
+
+-- `N` and the number
+abbrev pub lineN : ℕ → List ℕ
+lineN n = bytes "N " ++ decimal n
+
+-- a line of neither kind
+abbrev pub lineX : List ℕ
+lineX = bytes "X"
+
+-- a refusal, and what the screen shows for it: `N` where there is nothing to show
+abbrev pub shown : ℕ → List ℕ → List ℕ
+shown n [] = lineN n
+shown n (x ∷ xs) = lineR n (x ∷ xs)
+
+abbrev pub ofText : Answer Tag → List ℕ
+ofText (taken τ) = lineB (bankOf τ)
+ofText (refused n) = lineN n
+
+abbrev pub ofBank : List ℕ → Answer Tag → List ℕ
+ofBank b (taken τ) = lineT (textOf τ)
+ofBank b (refused n) = shown n (screen [] (rawText b) n)
+
+-- a line that begins `urn:` has at most 200 characters
+abbrev pub textReply : List ℕ → List ℕ
+textReply l = cond (leb (length l) 200) (ofText (tagOfText l)) lineX
+
+-- any other holds a bank in hex
+abbrev pub bankReply : Option (List ℕ) → List ℕ
+bankReply (some b) = ofBank b (tagOfBank b)
+bankReply none = lineX
+
+-- whether a text begins so
+abbrev pub begun : Option (List ℕ) → Bool
+begun none = false
+begun (some rest) = true
+
+unfoldable pub replyOf : List ℕ → List ℕ
+replyOf l = cond (begun (after (bytes "urn:") l)) (textReply l) (bankReply (bankIn l))

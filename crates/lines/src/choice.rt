@@ -1,0 +1,106 @@
+// The reply to one line: to a tag text, to a bank in hex, to neither (document 01). Each is written from the output's start on, and its
+// length answered.
+use super::hex;
+use super::letters::put_bank;
+use super::letters::put_neither;
+use super::letters::put_number;
+use codec::Answer;
+ghost use mathlib.Core.Path.{_≡_};
+ghost use Prim.Native.Nat.{_≤_};
+ghost use lib.ListN.{length};
+ghost use Rattle.rules.specs.Answers.{refused};
+ghost use Rattle.rules.specs.Bytes.{bytes};
+ghost use Rattle.rules.specs.TextNumbers.{after};
+ghost use Rattle.rules.specs.BankNumbers.{tagOfBank};
+ghost use Rattle.lines.specs.Hex.{bankIn};
+ghost use Rattle.lines.specs.Replies.{ofBank, textReply, bankReply, begun, replyOf};
+ghost use Rattle.lines.specs.Lines.{Wrote, replyRoom};
+
+// Whether a line begins `urn:`.
+fn is_text(line: &[u8]) -> bool
+    ensures { λ r. ⌜ r ≡ begun (after (bytes "urn:") (now (line .entry))) ⌝ }
+{
+    if line.len() < 4 {
+        return false;
+    }
+    if line[0] != b'u' {
+        return false;
+    }
+    if line[1] != b'r' {
+        return false;
+    }
+    if line[2] != b'n' {
+        return false;
+    }
+    line[3] == b':'
+}
+
+// To a line that begins `urn:`.
+fn text_reply(line: &[u8], out: &mut [u8]) -> usize
+    requires { ⌜ replyRoom ≤ length (now out) ⌝ }
+    ensures { λ r. ⌜ Wrote (textReply (now (line .entry))) (now (out .entry)) r (now (out .exit)) ⌝ }
+{
+    if 200 < line.len() {
+        return put_neither(out);
+    }
+    let mut bank = [0u8; 64];
+    match codec::text_to_bank(line, &mut bank) {
+        Answer::Written(n) => put_bank(&bank[..n], out),
+        Answer::Refused(number) => put_number(b'N', number, out),
+    }
+}
+
+// To a bank that is refused. Where its raw line is refused too, there is nothing to show; any other number has two digits.
+fn refused_reply(bank: &[u8], number: u8, out: &mut [u8]) -> usize
+    requires { ⌜ (tagOfBank (now bank) ≡ refused number) × (replyRoom ≤ length (now out)) ⌝ }
+    ensures { λ r. ⌜ Wrote (ofBank (now (bank .entry)) (refused number)) (now (out .entry)) r (now (out .exit)) ⌝ }
+{
+    match codec::raw_line(bank, &mut out[5..]) {
+        Answer::Written(n) => {
+            let end = put_number(b'R', number, out);
+            out[end] = b' ';
+            n + 5
+        }
+        Answer::Refused(_) => put_number(b'N', number, out),
+    }
+}
+
+// To a bank.
+fn bank_reply(bank: &[u8], out: &mut [u8]) -> usize
+    requires { ⌜ replyRoom ≤ length (now out) ⌝ }
+    ensures { λ r. ⌜ Wrote (ofBank (now (bank .entry)) (tagOfBank (now (bank .entry)))) (now (out .entry)) r (now (out .exit)) ⌝ }
+{
+    match codec::bank_to_text(bank, &mut out[2..]) {
+        Answer::Written(n) => {
+            out[0] = b'T';
+            out[1] = b' ';
+            n + 2
+        }
+        Answer::Refused(number) => refused_reply(bank, number, out),
+    }
+}
+
+// To a line that does not begin `urn:`.
+fn hex_reply(line: &[u8], out: &mut [u8]) -> usize
+    requires { ⌜ replyRoom ≤ length (now out) ⌝ }
+    ensures { λ r. ⌜ Wrote (bankReply (bankIn (now (line .entry)))) (now (out .entry)) r (now (out .exit)) ⌝ }
+{
+    if !hex::is_bank(line) {
+        return put_neither(out);
+    }
+    let mut bank = [0u8; 64];
+    hex::read(line, &mut bank);
+    let n = line.len() / 2;
+    bank_reply(&bank[..n], out)
+}
+
+// To any line, without a line feed.
+pub fn write(line: &[u8], out: &mut [u8]) -> usize
+    requires { ⌜ replyRoom ≤ length (now out) ⌝ }
+    ensures { λ r. ⌜ Wrote (replyOf (now (line .entry))) (now (out .entry)) r (now (out .exit)) ⌝ }
+{
+    if is_text(line) {
+        return text_reply(line, out);
+    }
+    hex_reply(line, out)
+}

@@ -1,0 +1,74 @@
+// A bank in hex: an even number, at most 128, of upper-case hex digits (document 01).
+ghost use mathlib.Core.Bool.{cond};
+ghost use mathlib.Core.Path.{_≡_};
+ghost use Prim.Native.Nat.{_*_, _%_, _≤_};
+ghost use lib.Dec.{T};
+ghost use lib.ListN.{length};
+ghost use Rattle.numeral.specs.Numeral.{splice};
+ghost use Rattle.rules.specs.Bytes.{all};
+ghost use Rattle.lines.specs.Hex.{isHex, hexValue, bytesIn, isBank};
+
+// 0 for an upper-case hex digit, 1 for any other byte.
+fn not_hex(c: u8) -> u8
+    ensures { λ r. ⌜ r ≡ cond (isHex c) 0 1 ⌝ }
+{
+    if c < b'0' {
+        return 1;
+    }
+    if c <= b'9' {
+        return 0;
+    }
+    if c < b'A' {
+        return 1;
+    }
+    if c <= b'F' {
+        return 0;
+    }
+    1
+}
+
+// Whether all bytes are hex digits. The largest answer is taken and no early end, so that the machine looks at many bytes at once.
+fn all_hex(line: &[u8]) -> bool
+    ensures { λ r. ⌜ r ≡ all isHex (now (line .entry)) ⌝ }
+{
+    let mut wrong: u8 = 0;
+    for i in 0..line.len() {
+        let w = not_hex(line[i]);
+        if wrong < w {
+            wrong = w;
+        }
+    }
+    wrong == 0
+}
+
+// Whether a line is a bank in hex.
+pub fn is_bank(line: &[u8]) -> bool
+    ensures { λ r. ⌜ r ≡ isBank (now (line .entry)) ⌝ }
+{
+    if 128 < line.len() {
+        return false;
+    }
+    if line.len() % 2 != 0 {
+        return false;
+    }
+    all_hex(line)
+}
+
+// The value of a hex digit: the letters stand 9 behind what their lower four bits say.
+fn value(c: u8) -> u8
+    requires { ⌜ T (isHex c) ⌝ }
+    ensures { λ r. ⌜ r ≡ hexValue c ⌝ }
+{
+    c % 16 + 9 * (c / 64)
+}
+
+// The bank of a line, from the lent bank's start on.
+pub fn read(line: &[u8], bank: &mut [u8])
+    requires { ⌜ T (all isHex (now line)) × (length (now line) ≤ 2 * length (now bank)) ⌝ }
+    ensures { λ _. ⌜ now (bank .exit) ≡ splice (now (bank .entry)) 0 (bytesIn (now (line .entry))) ⌝ }
+{
+    let n = line.len() / 2;
+    for i in 0..n {
+        bank[i] = 16 * value(line[2 * i]) + value(line[2 * i + 1]);
+    }
+}

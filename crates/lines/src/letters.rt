@@ -1,0 +1,36 @@
+// The replies by their letters, from the output's start on; each answers its length.
+ghost use mathlib.Core.List.{_∷_};
+ghost use Prim.Native.Nat.{_+_, _*_, _≤_};
+ghost use lib.ListN.{length};
+ghost use Rattle.lines.specs.Replies.{space, decimal, lineB, lineX};
+ghost use Rattle.lines.specs.Lines.{Wrote};
+
+// `X`.
+pub fn put_neither(out: &mut [u8]) -> usize
+    requires { ⌜ 1 ≤ length (now out) ⌝ }
+    ensures { λ r. ⌜ Wrote lineX (now (out .entry)) r (now (out .exit)) ⌝ }
+{
+    out[0] = b'X';
+    1
+}
+
+// `B` and the bank in hex.
+pub fn put_bank(bank: &[u8], out: &mut [u8]) -> usize
+    requires { ⌜ 2 + 2 * length (now bank) ≤ length (now out) ⌝ }
+    ensures { λ r. ⌜ Wrote (lineB (now (bank .entry))) (now (out .entry)) r (now (out .exit)) ⌝ }
+{
+    out[0] = b'B';
+    out[1] = b' ';
+    digits::put_hex(out, 2, bank);
+    2 + 2 * bank.len()
+}
+
+// A letter and a number.
+pub fn put_number(letter: u8, number: u8, out: &mut [u8]) -> usize
+    requires { ⌜ 5 ≤ length (now out) ⌝ }
+    ensures { λ r. ⌜ Wrote (letter ∷ space ∷ decimal number) (now (out .entry)) r (now (out .exit)) ⌝ }
+{
+    out[0] = letter;
+    out[1] = b' ';
+    digits::put_decimal(out, 2, number as u64)
+}
