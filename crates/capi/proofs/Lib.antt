@@ -1,0 +1,2 @@
+-- That an answer in numbers says what the codec's answer says.
+pub mod Replying

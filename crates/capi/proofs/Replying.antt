@@ -1,0 +1,49 @@
+-- An answer in numbers says what the codec's says: number by number, and the line on the screen by the text that it is a part of.
+use Prim.Native.Nat.{ℕ, _<_}
+use mathlib.Core.Path.{_≡_, refl, ap}
+use mathlib.Core.Bool.{Bool, true, false, _&&_, cond}
+use mathlib.Core.List.{List, []}
+use native.Mathlib.Omega.{arith}
+use lib.Dec.{leb}
+use lib.ListN.{length, take}
+use lib.Seq.{take-length}
+use borrow.Author.Tests.{ne-eqb, le-leb, lt-leb}
+use Rattle.rules.specs.Calls.{Call}
+use Rattle.rules.specs.Screen.{screen}
+use Rattle.codec.specs.Answers.{answered, numberOf, lengthOf}
+use Rattle.codec.specs.declared.Answer.{Answer}
+use Rattle.capi.specs.declared.Reply.{Reply}
+use Rattle.capi.specs.Replies.{replied, Shows}
+
+pub same : (a : Answer) (out : List ℕ) (c : Call) → answered a out ≡ c → (r : Reply) → r .number ≡ numberOf a → r .length ≡ lengthOf a → replied r out ≡ c
+same a out c e r n l = rw (n, l, ← e)
+
+-- a number past those that the codec takes shows nothing
+pub past : (tag raw : List ℕ) (n : ℕ) → 255 < n → Shows tag raw n (record { text = 1; length = 0 })
+unfolding screen
+past tag raw n l =
+    let z = ne-eqb n 0 (λ e. omega arith) in
+    let u = lt-leb n 19 (omega arith) in
+    let m = le-leb 11 n (omega arith) in
+    record { text = simp z; whole = simp (z, u, m); shown = simp (z, u, m) }
+
+module _ (tag raw : List ℕ) (n : ℕ) where
+  all-of-tag : n ≡ 0 → screen tag raw n ≡ tag
+  unfolding screen
+  all-of-tag z = rw z
+
+  start-of-raw : ¬ (n ≡ 0) → take (length (screen tag raw n)) raw ≡ screen tag raw n
+  unfolding screen
+  start-of-raw z = rw (ne-eqb n 0 z) (go (leb 11 n && leb n 19))
+    where
+      go : (t : Bool) → take (length (cond t raw [])) raw ≡ cond t raw []
+      go true = take-length raw
+      go false = refl
+
+  -- the codec's line, which is the screen's
+  module _ (line : List ℕ) (is : line ≡ screen tag raw n) where
+    pub of-tag : n ≡ 0 → Shows tag raw n (record { text = 0; length = length line })
+    of-tag z = record { text = simp z; whole = ap length is; shown = rw (is, all-of-tag z) (take-length tag) }
+
+    pub of-raw : ¬ (n ≡ 0) → Shows tag raw n (record { text = 1; length = length line })
+    of-raw z = record { text = simp (ne-eqb n 0 z); whole = ap length is; shown = rw is (start-of-raw z) }

@@ -1,0 +1,2 @@
+-- The answers of the calls for other languages.
+pub mod Replies

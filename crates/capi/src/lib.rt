@@ -1,0 +1,83 @@
+// The four public calls for other languages (include/tagcodec.h). A lent slice is a pointer and a length, an answer two numbers. No call
+// has a condition; what C itself owes of a pointer stands in the header.
+ghost use mathlib.Core.Path.{_≡_};
+ghost use Rattle.rules.specs.Calls.{textToBank, bankToText, rawLine};
+ghost use Rattle.codec.specs.Answers.{numberOf, lengthOf};
+ghost use Rattle.capi.specs.Replies.{replied, Shows};
+use codec::Answer;
+
+// What a call gives: document 01's number, and the length written.
+#[repr(C)]
+pub struct Reply {
+    pub number: u32,
+    pub length: usize,
+}
+
+// The line on the screen: the first `length` bytes of the tag text (`text` is 0) or of the raw text (1).
+#[repr(C)]
+pub struct Line {
+    pub text: u32,
+    pub length: usize,
+}
+
+fn in_numbers(answer: Answer) -> Reply
+    ensures number { λ r. ⌜ r .number ≡ numberOf answer ⌝ }
+    ensures length { λ r. ⌜ r .length ≡ lengthOf answer ⌝ }
+{
+    match answer {
+        Answer::Written(length) => Reply {
+            number: 0,
+            length: length,
+        },
+        Answer::Refused(number) => Reply {
+            number: number as u32,
+            length: 0,
+        },
+    }
+}
+
+// Text to bank: numbers 1 to 8.
+#[no_mangle]
+pub extern "C" fn tagcodec_text_to_bank(text: &[u8], out: &mut [u8]) -> Reply
+    ensures { λ r. ⌜ replied r (now (out .exit)) ≡ textToBank (now (text .entry)) (now (out .entry)) ⌝ }
+{
+    in_numbers(codec::text_to_bank(text, out))
+}
+
+// Bank to text: numbers 1 and 9 to 19.
+#[no_mangle]
+pub extern "C" fn tagcodec_bank_to_text(bank: &[u8], out: &mut [u8]) -> Reply
+    ensures { λ r. ⌜ replied r (now (out .exit)) ≡ bankToText (now (bank .entry)) (now (out .entry)) ⌝ }
+{
+    in_numbers(codec::bank_to_text(bank, out))
+}
+
+// The raw line of a bank: numbers 1, 9 and 10.
+#[no_mangle]
+pub extern "C" fn tagcodec_raw_line(bank: &[u8], out: &mut [u8]) -> Reply
+    ensures { λ r. ⌜ replied r (now (out .exit)) ≡ rawLine (now (bank .entry)) (now (out .entry)) ⌝ }
+{
+    in_numbers(codec::raw_line(bank, out))
+}
+
+// The line on the screen. An exported function returns no pointer, so the answer names the text. Any number may come in: above 255 it
+// shows nothing, as every number above 19 does.
+#[no_mangle]
+pub extern "C" fn tagcodec_screen<'a>(tag: &'a [u8], raw: &'a [u8], number: u32) -> Line
+    ensures { λ r. ⌜ Shows (now (tag .entry)) (now (raw .entry)) number r ⌝ }
+{
+    if 255 < number {
+        return Line { text: 1, length: 0 };
+    }
+    let line = codec::screen(tag, raw, number as u8);
+    if number == 0 {
+        return Line {
+            text: 0,
+            length: line.len(),
+        };
+    }
+    Line {
+        text: 1,
+        length: line.len(),
+    }
+}
