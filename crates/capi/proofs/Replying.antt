@@ -18,8 +18,8 @@ use Rattle.capi.specs.Replies.{replied, Shows}
 pub same : (a : Answer) (out : List ℕ) (c : Call) → answered a out ≡ c → (r : Reply) → r .number ≡ numberOf a → r .length ≡ lengthOf a → replied r out ≡ c
 same a out c e r n l = rw (n, l, ← e)
 
--- a number past those that the codec takes shows nothing
-pub past : (tag raw : List ℕ) (n : ℕ) → 255 < n → Shows tag raw n (record { text = 1; length = 0 })
+-- a number past document 01's shows nothing
+pub past : (tag raw : List ℕ) (n : ℕ) → 19 < n → Shows tag raw n (record { text = 1; length = 0 })
 unfolding screen
 past tag raw n l =
     let z = ne-eqb n 0 (λ e. omega arith) in
