@@ -1,0 +1,54 @@
+//! The calls of include/tagcodec.h for Rust: link libcapi.a. What the header asks of a caller, Rust's references keep.
+#![allow(dead_code)]
+
+#[repr(C)]
+struct Reply {
+    number: u32,
+    length: usize,
+}
+
+#[repr(C)]
+struct Line {
+    text: u32,
+    length: usize,
+}
+
+extern "C" {
+    fn tagcodec_text_to_bank(text: *const u8, text_length: usize, out: *mut u8, out_length: usize) -> Reply;
+    fn tagcodec_bank_to_text(bank: *const u8, bank_length: usize, out: *mut u8, out_length: usize) -> Reply;
+    fn tagcodec_raw_line(bank: *const u8, bank_length: usize, out: *mut u8, out_length: usize) -> Reply;
+    fn tagcodec_screen(tag: *const u8, tag_length: usize, raw: *const u8, raw_length: usize, number: u32) -> Line;
+}
+
+/// The bytes that an output must have.
+pub const BANK_ROOM: usize = 64;
+pub const TEXT_ROOM: usize = 160;
+
+/// The length written, or the number of the refusal.
+pub type Answer = Result<usize, u32>;
+
+fn answer(reply: Reply) -> Answer {
+    match reply.number {
+        0 => Ok(reply.length),
+        number => Err(number),
+    }
+}
+
+pub fn text_to_bank(text: &[u8], out: &mut [u8]) -> Answer {
+    answer(unsafe { tagcodec_text_to_bank(text.as_ptr(), text.len(), out.as_mut_ptr(), out.len()) })
+}
+
+pub fn bank_to_text(bank: &[u8], out: &mut [u8]) -> Answer {
+    answer(unsafe { tagcodec_bank_to_text(bank.as_ptr(), bank.len(), out.as_mut_ptr(), out.len()) })
+}
+
+pub fn raw_line(bank: &[u8], out: &mut [u8]) -> Answer {
+    answer(unsafe { tagcodec_raw_line(bank.as_ptr(), bank.len(), out.as_mut_ptr(), out.len()) })
+}
+
+/// The line on the screen, a part of one of the two texts.
+pub fn screen<'a>(tag: &'a [u8], raw: &'a [u8], number: u32) -> &'a [u8] {
+    let line = unsafe { tagcodec_screen(tag.as_ptr(), tag.len(), raw.as_ptr(), raw.len(), number) };
+    let text = if line.text == 0 { tag } else { raw };
+    &text[..line.length]
+}

@@ -1,0 +1,94 @@
+/* tagcodec: RFID tag codes of thirteen GS1 EPC schemes, text to bank, bank to text, and the line on the screen.
+ *
+ * Every function here is proved, in Rattle, to give what docs/01-scope.md says, for any bytes whatever: number, length, and
+ * each byte of the output. The caller checks nothing beforehand. No function keeps a pointer, allocates, or changes anything
+ * but the output, so all may be called from any number of threads.
+ *
+ * What the caller owes, because C can't check it:
+ *   - each pointer is valid for the length beside it (NULL will do where that length is 0);
+ *   - the output overlaps no input, and nothing else writes to either during the call.
+ */
+#ifndef TAGCODEC_H
+#define TAGCODEC_H
+
+#include <stddef.h>
+#include <stdint.h>
+
+#ifdef __cplusplus
+extern "C" {
+#endif
+
+/* The bytes that an output must have; a shorter one is refused with 1, whatever is to be written. */
+#define TAGCODEC_BANK_ROOM 64
+#define TAGCODEC_TEXT_ROOM 160
+
+/* The numbers. Of those that apply the first is given, in this order. */
+enum tagcodec_number {
+    TAGCODEC_ACCEPTED = 0,
+
+    TAGCODEC_OUTPUT_TOO_SHORT = 1, /* output shorter than 64 bytes (bank) or 160 bytes (text) */
+
+    /* text to bank */
+    TAGCODEC_START = 2,          /* does not begin with `urn:epc:tag:` */
+    TAGCODEC_NAME = 3,           /* what follows is not a listed name and a colon */
+    TAGCODEC_FILTER = 4,         /* filter is not one digit 0 to 7 and a dot (never for gid-96) */
+    TAGCODEC_PREFIX = 5,         /* no 6 to 12 digits and a dot; for gid-96, no integer below 2^28 and a dot */
+    TAGCODEC_REFERENCE = 6,      /* not the row's digits and a dot, or the end for sscc-96, gsrn-96 and gsrnp-96;
+                                    for gid-96, no integer below 2^24 and a dot */
+    TAGCODEC_LAST_PART_FORM = 7, /* last part has the wrong form, empty included */
+    TAGCODEC_LAST_PART_SIZE = 8, /* last part's value or number of characters is too large */
+
+    /* bank to text; the raw line gives only 1, 9 and 10 */
+    TAGCODEC_BANK_TOO_SHORT = 9,      /* fewer than 2 bytes, or fewer than 2 + 2 W, W being the bank's word count */
+    TAGCODEC_NO_WORDS = 10,           /* W is 0 */
+    TAGCODEC_TOGGLE = 11,             /* toggle is 1: no EPC */
+    TAGCODEC_CONTROL_BITS = 12,       /* bits 15h, 16h or 18h to 1Fh not all 0 */
+    TAGCODEC_HEADER = 13,             /* header not in the table of schemes */
+    TAGCODEC_WORD_COUNT = 14,         /* W differs from the scheme's word count */
+    TAGCODEC_FILL_BITS = 15,          /* a fill bit, or one of the 24 zero bits, is 1 */
+    TAGCODEC_PARTITION = 16,          /* partition value is 7 */
+    TAGCODEC_PREFIX_TOO_LARGE = 17,   /* prefix is 10^digits or more */
+    TAGCODEC_REFERENCE_TOO_LARGE = 18, /* reference is 10^digits or more; with 0 digits, not 0 */
+    TAGCODEC_STRING = 19              /* string begins with a zero, has a nonzero group after a zero, or a group that is no character */
+};
+
+/* What a call gives. Accepted: number 0 and the length written from the output's start on; bytes past it are unchanged.
+ * Refused: the number, length 0, and every byte of the output unchanged. */
+typedef struct tagcodec_reply {
+    uint32_t number;
+    size_t length;
+} tagcodec_reply;
+
+/* The text of a tag, `urn:epc:tag:` and so on, to its bank: numbers 0 to 8. The bank begins with the word at address 10h, after
+ * the CRC, and has at most 28 bytes. A text is bytes; it needs no zero at its end, and a zero in it is a character like others. */
+tagcodec_reply tagcodec_text_to_bank(const uint8_t *text, size_t text_length, uint8_t *out, size_t out_length);
+
+/* A bank, from address 10h on, to the text of its tag: numbers 0, 1 and 9 to 19. A text has at most 99 characters, and no zero is
+ * written behind it. Bytes after word W are never looked at. Writing the text again gives the same bank. */
+tagcodec_reply tagcodec_bank_to_text(const uint8_t *bank, size_t bank_length, uint8_t *out, size_t out_length);
+
+/* The raw line of a bank, `urn:epc:raw:` and so on, whatever its code is: numbers 0, 1, 9 and 10. At most 145 characters, and no zero
+ * behind them. */
+tagcodec_reply tagcodec_raw_line(const uint8_t *bank, size_t bank_length, uint8_t *out, size_t out_length);
+
+/* The two texts that a line on the screen can be a part of. */
+enum tagcodec_text {
+    TAGCODEC_TAG_TEXT = 0,
+    TAGCODEC_RAW_TEXT = 1
+};
+
+/* The first `length` bytes of the text that `text` names. */
+typedef struct tagcodec_line {
+    uint32_t text;
+    size_t length;
+} tagcodec_line;
+
+/* The line on the screen, from the tag text, the raw text and the number that tagcodec_bank_to_text gave: all of the tag text for 0, all
+ * of the raw text for 11 to 19, the empty start of the raw text for every other number, 20 and above included. */
+tagcodec_line tagcodec_screen(const uint8_t *tag, size_t tag_length, const uint8_t *raw, size_t raw_length, uint32_t number);
+
+#ifdef __cplusplus
+}
+#endif
+
+#endif
