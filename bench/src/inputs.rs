@@ -1,0 +1,115 @@
+//! What is measured: tags of each scheme in every row of its table, and hostile texts of any length.
+
+/// What stands behind the company prefix, with its digits or bits (docs/01-scope.md, "The thirteen schemes").
+enum Parts {
+    Integer { together: usize, bits: u32 },
+    String { together: usize, most: usize },
+    Alone { together: usize },
+    Asset,
+    Integers,
+}
+
+pub struct Scheme {
+    pub name: &'static str,
+    parts: Parts,
+}
+
+/// `together` is how many digits prefix and reference have between them.
+#[rustfmt::skip]
+pub const SCHEMES: [Scheme; 13] = [
+    Scheme { name: "sgtin-96", parts: Parts::Integer { together: 13, bits: 38 } },
+    Scheme { name: "sgtin-198", parts: Parts::String { together: 13, most: 20 } },
+    Scheme { name: "sscc-96", parts: Parts::Alone { together: 17 } },
+    Scheme { name: "sgln-96", parts: Parts::Integer { together: 12, bits: 41 } },
+    Scheme { name: "sgln-195", parts: Parts::String { together: 12, most: 20 } },
+    Scheme { name: "grai-96", parts: Parts::Integer { together: 12, bits: 38 } },
+    Scheme { name: "grai-170", parts: Parts::String { together: 12, most: 16 } },
+    Scheme { name: "giai-96", parts: Parts::Asset },
+    Scheme { name: "gsrn-96", parts: Parts::Alone { together: 17 } },
+    Scheme { name: "gsrnp-96", parts: Parts::Alone { together: 17 } },
+    Scheme { name: "gdti-96", parts: Parts::Integer { together: 12, bits: 41 } },
+    Scheme { name: "gdti-174", parts: Parts::String { together: 12, most: 17 } },
+    Scheme { name: "gid-96", parts: Parts::Integers },
+];
+
+const PLAIN: &[u8] = b"!'()*+,-.0123456789:;=ABCDEFGHIJKLMNOPQRSTUVWXYZ_abcdefghijklmnopqrstuvwxyz";
+const ESCAPES: [&str; 7] = ["%22", "%25", "%26", "%2F", "%3C", "%3E", "%3F"];
+
+/// Numbers that are the same in every run.
+pub struct Seeded(u64);
+
+impl Seeded {
+    pub fn new() -> Self {
+        Seeded(0x9E37_79B9_7F4A_7C15)
+    }
+
+    pub fn below(&mut self, n: u64) -> u64 {
+        self.0 ^= self.0 << 13;
+        self.0 ^= self.0 >> 7;
+        self.0 ^= self.0 << 17;
+        (self.0 >> 11) % n
+    }
+
+    fn digits(&mut self, n: usize) -> String {
+        (0..n).map(|_| char::from(b'0' + self.below(10) as u8)).collect()
+    }
+
+    /// A number of any size below 2 to the power of `bits`.
+    fn integer(&mut self, bits: u32) -> u64 {
+        let bits = 1 + self.below(bits.into());
+        self.below(1 << bits)
+    }
+
+    fn string(&mut self, most: usize) -> String {
+        let count = 1 + self.below(most as u64);
+        (0..count).map(|_| self.character()).collect()
+    }
+
+    fn character(&mut self) -> String {
+        let n = self.below(82) as usize;
+        match PLAIN.get(n) {
+            Some(&c) => char::from(c).into(),
+            None => ESCAPES[n - PLAIN.len()].into(),
+        }
+    }
+}
+
+/// The text of a tag, with a company prefix of so many digits.
+fn text(scheme: &Scheme, prefix_digits: usize, seeded: &mut Seeded) -> String {
+    let company = format!("{}.{}", seeded.below(8), seeded.digits(prefix_digits));
+    let parts = match scheme.parts {
+        Parts::Integer { together, bits } => {
+            let reference = seeded.digits(together - prefix_digits);
+            format!("{company}.{reference}.{}", seeded.integer(bits))
+        }
+        Parts::String { together, most } => {
+            let reference = seeded.digits(together - prefix_digits);
+            format!("{company}.{reference}.{}", seeded.string(most))
+        }
+        Parts::Alone { together } => format!("{company}.{}", seeded.digits(together - prefix_digits)),
+        Parts::Asset => format!("{company}.{}", seeded.integer(42)),
+        Parts::Integers => format!("{}.{}.{}", seeded.integer(28), seeded.integer(24), seeded.integer(36)),
+    };
+    format!("urn:epc:tag:{}:{parts}", scheme.name)
+}
+
+/// So many texts of a scheme, in every row alike.
+pub fn texts(scheme: &Scheme, count: usize, seeded: &mut Seeded) -> Vec<Vec<u8>> {
+    (0..count).map(|i| text(scheme, 6 + i % 7, seeded).into_bytes()).collect()
+}
+
+/// What repeats, and before what: each text is wrong or too long only at its very end.
+pub const HOSTILE: [(&str, &str, &str); 6] = [
+    ("escapes", "urn:epc:tag:sgtin-198:0.0614141.812345.", "%2F"),
+    ("letters", "urn:epc:tag:sgtin-198:0.0614141.812345.", "A"),
+    ("dots", "urn:epc:tag:sgtin-198:0.0614141.812345.", "."),
+    ("digits in a string", "urn:epc:tag:sgtin-198:0.0614141.812345.", "7"),
+    ("digits of a serial", "urn:epc:tag:sgtin-96:3.0614141.812345.", "7"),
+    ("digits of a prefix", "urn:epc:tag:sgtin-96:3.", "7"),
+];
+
+/// A text of about `length` bytes.
+pub fn hostile(start: &str, repeated: &str, length: usize) -> Vec<u8> {
+    let times = (length - start.len()) / repeated.len();
+    format!("{start}{}", repeated.repeat(times)).into_bytes()
+}

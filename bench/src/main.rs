@@ -1,0 +1,90 @@
+//! The figures of docs/FIGURES.md, as tables in Markdown: each call on each scheme, long texts, and the two programs on lines.
+mod inputs;
+mod programs;
+#[path = "../../examples/tagcodec.rs"]
+mod tagcodec;
+mod timing;
+
+use inputs::{hostile, texts, Seeded, HOSTILE, SCHEMES};
+use timing::{measure, Call, Case, Times};
+
+/// How many tags of a scheme are gone through.
+const TAGS: usize = 56;
+
+const LENGTHS: [usize; 5] = [100, 1_000, 10_000, 100_000, 1_000_000];
+
+const TEXT_TO_BANK: [Call; 2] = [tagcodec::text_to_bank, |i, o| second::text_to_bank(i, o).map_err(u32::from)];
+const BANK_TO_TEXT: [Call; 2] = [tagcodec::bank_to_text, |i, o| second::bank_to_text(i, o).map_err(u32::from)];
+const RAW_LINE: [Call; 2] = [tagcodec::raw_line, |i, o| second::raw_line(i, o).map_err(u32::from)];
+
+fn bank_of(text: &Vec<u8>) -> Vec<u8> {
+    let mut out = [0; tagcodec::BANK_ROOM];
+    let length = tagcodec::text_to_bank(text, &mut out).expect("a tag");
+    out[..length].to_vec()
+}
+
+fn case(labels: [&str; 2], [proved, second]: [Call; 2], inputs: Vec<Vec<u8>>) -> Case {
+    Case { labels: labels.map(String::from).to_vec(), inputs, proved, second }
+}
+
+/// Each call on each scheme.
+fn calls() -> Vec<Case> {
+    let mut seeded = Seeded::new();
+    let tags: Vec<_> = SCHEMES.iter().map(|s| (s.name, texts(s, TAGS, &mut seeded))).collect();
+    let banks = |texts: &Vec<Vec<u8>>| texts.iter().map(bank_of).collect::<Vec<_>>();
+    let written = tags.iter().map(|(name, t)| case(["text_to_bank", name], TEXT_TO_BANK, t.clone()));
+    let shown = tags.iter().map(|(name, t)| case(["bank_to_text", name], BANK_TO_TEXT, banks(t)));
+    let raw = tags.iter().map(|(name, t)| case(["raw_line", name], RAW_LINE, banks(t)));
+    written.chain(shown).chain(raw).collect()
+}
+
+/// Text to bank on long texts.
+fn growth() -> Vec<Case> {
+    let of = |(name, start, repeated): (&str, &str, &str), length: usize| {
+        let text = hostile(start, repeated, length);
+        case([name, &length.to_string()], TEXT_TO_BANK, vec![text])
+    };
+    HOSTILE.iter().flat_map(|&kind| LENGTHS.map(|length| of(kind, length))).collect()
+}
+
+fn ratio(t: Times) -> f64 {
+    t.proved / t.second
+}
+
+fn print_calls() {
+    let cases = calls();
+    println!("| Call | Scheme | ns a call | calls a second | second: ns a call | calls a second | ratio |");
+    println!("|---|---|--:|--:|--:|--:|--:|");
+    let times = measure(&cases);
+    for (case, &t) in cases.iter().zip(&times) {
+        let (a, b) = (t.proved, t.second);
+        print!("| {} | {a:.1} | {:.0} | ", case.labels.join(" | "), 1e9 / a);
+        println!("{b:.1} | {:.0} | {:.2} |", 1e9 / b, ratio(t));
+    }
+    let largest = times.iter().map(|&t| ratio(t)).fold(0.0, f64::max);
+    println!("\nThe largest ratio is {largest:.2}.\n");
+}
+
+fn print_growth() {
+    let cases = growth();
+    println!("| Text to bank, a text of | bytes | ns a call | ns a byte | second: ns a call | ns a byte | ratio |");
+    println!("|---|--:|--:|--:|--:|--:|--:|");
+    for (case, &t) in cases.iter().zip(&measure(&cases)) {
+        let (a, b, n) = (t.proved, t.second, case.inputs[0].len() as f64);
+        print!("| {} | {a:.0} | {:.3} | ", case.labels.join(" | "), a / n);
+        println!("{b:.0} | {:.3} | {:.2} |", b / n, ratio(t));
+    }
+    println!();
+}
+
+/// The folder for the lines, the program of the proved codec (where there is one) and second's.
+fn main() {
+    let arguments: Vec<String> = std::env::args().skip(1).collect();
+    let [folder, tagline, second] = &arguments[..] else {
+        eprintln!("usage: bench FOLDER TAGLINE SECOND (bench/run calls it)");
+        std::process::exit(2);
+    };
+    print_calls();
+    print_growth();
+    programs::print_lines(folder, tagline, second);
+}
