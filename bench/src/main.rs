@@ -1,37 +1,27 @@
 //! The figures of docs/FIGURES.md, as tables in Markdown: each call on each scheme, long texts, and the two programs on lines.
+mod codecs;
 mod inputs;
 mod programs;
-#[path = "../../examples/tagcodec.rs"]
-mod tagcodec;
 mod timing;
 
+use codecs::{bank_of, Pair, BANK_TO_TEXT, RAW_LINE, TEXT_TO_BANK};
 use inputs::{hostile, texts, Seeded, HOSTILE, SCHEMES};
-use timing::{measure, Call, Case, Times};
+use timing::{measure, Case, Times};
 
 /// How many tags of a scheme are gone through.
 const TAGS: usize = 56;
 
 const LENGTHS: [usize; 5] = [100, 1_000, 10_000, 100_000, 1_000_000];
 
-const TEXT_TO_BANK: [Call; 2] = [tagcodec::text_to_bank, |i, o| second::text_to_bank(i, o).map_err(u32::from)];
-const BANK_TO_TEXT: [Call; 2] = [tagcodec::bank_to_text, |i, o| second::bank_to_text(i, o).map_err(u32::from)];
-const RAW_LINE: [Call; 2] = [tagcodec::raw_line, |i, o| second::raw_line(i, o).map_err(u32::from)];
-
-fn bank_of(text: &Vec<u8>) -> Vec<u8> {
-    let mut out = [0; tagcodec::BANK_ROOM];
-    let length = tagcodec::text_to_bank(text, &mut out).expect("a tag");
-    out[..length].to_vec()
-}
-
-fn case(labels: [&str; 2], [proved, second]: [Call; 2], inputs: Vec<Vec<u8>>) -> Case {
-    Case { labels: labels.map(String::from).to_vec(), inputs, proved, second }
+fn case(labels: [&str; 2], calls: Pair, inputs: Vec<Vec<u8>>) -> Case {
+    Case { labels: labels.map(String::from).to_vec(), inputs, calls }
 }
 
 /// Each call on each scheme.
 fn calls() -> Vec<Case> {
     let mut seeded = Seeded::new();
     let tags: Vec<_> = SCHEMES.iter().map(|s| (s.name, texts(s, TAGS, &mut seeded))).collect();
-    let banks = |texts: &Vec<Vec<u8>>| texts.iter().map(bank_of).collect::<Vec<_>>();
+    let banks = |texts: &Vec<Vec<u8>>| texts.iter().map(|text| bank_of(text)).collect::<Vec<_>>();
     let written = tags.iter().map(|(name, t)| case(["text_to_bank", name], TEXT_TO_BANK, t.clone()));
     let shown = tags.iter().map(|(name, t)| case(["bank_to_text", name], BANK_TO_TEXT, banks(t)));
     let raw = tags.iter().map(|(name, t)| case(["raw_line", name], RAW_LINE, banks(t)));

@@ -1,15 +1,13 @@
 //! Time by rounds: in each round every call is measured once, the two codecs by turns, and the shortest time of each is kept.
+use crate::codecs::{give, Call, Pair};
 use std::hint::black_box;
 use std::time::Instant;
-
-pub type Call = fn(&[u8], &mut [u8]) -> Result<usize, u32>;
 
 /// One line of a table: a call of either codec on the same inputs.
 pub struct Case {
     pub labels: Vec<String>,
     pub inputs: Vec<Vec<u8>>,
-    pub proved: Call,
-    pub second: Call,
+    pub calls: Pair,
 }
 
 /// Nanoseconds a call.
@@ -29,7 +27,8 @@ impl Case {
     pub fn agree(&self) {
         for input in &self.inputs {
             let (mut a, mut b) = ([0xA5; 160], [0xA5; 160]);
-            assert_eq!((self.proved)(input, &mut a), (self.second)(input, &mut b), "{:?}", self.labels);
+            let (proved, second) = (give(self.calls.proved, input, &mut a), give(self.calls.second, input, &mut b));
+            assert_eq!(proved, second, "{:?}", self.labels);
             assert_eq!(a, b, "{:?}", self.labels);
         }
     }
@@ -40,7 +39,7 @@ impl Case {
         let began = Instant::now();
         for _ in 0..times {
             for input in &self.inputs {
-                let _ = black_box(call(black_box(input), black_box(&mut out)));
+                let _ = black_box(give(call, black_box(input), black_box(&mut out)));
             }
         }
         began.elapsed().as_nanos() as f64 / (times * self.inputs.len()) as f64
@@ -48,7 +47,7 @@ impl Case {
 
     /// How often the inputs are gone through in one measurement.
     fn times(&self) -> usize {
-        let turn = self.once(self.second, 1) * self.inputs.len() as f64;
+        let turn = self.once(self.calls.second, 1) * self.inputs.len() as f64;
         (LASTS / turn).ceil() as usize
     }
 }
@@ -59,8 +58,8 @@ pub fn measure(cases: &[Case]) -> Vec<Times> {
     let mut best = vec![Times { proved: f64::MAX, second: f64::MAX }; cases.len()];
     for _ in 0..ROUNDS {
         for ((case, &times), best) in cases.iter().zip(&times).zip(&mut best) {
-            best.proved = best.proved.min(case.once(case.proved, times));
-            best.second = best.second.min(case.once(case.second, times));
+            best.proved = best.proved.min(case.once(case.calls.proved, times));
+            best.second = best.second.min(case.once(case.calls.second, times));
         }
     }
     best
