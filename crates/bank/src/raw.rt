@@ -1,10 +1,10 @@
 // The raw line of a bank (document 01, "The bank").
 ghost use mathlib.Core.Path.{_≡_};
 ghost use mathlib.Core.List.{_++_};
-ghost use Prim.Native.Nat.{_+_, _*_, _≤_};
+ghost use Prim.Native.Nat.{_+_, _*_, _≤_, _<_};
 ghost use lib.ListN.{length, drop};
-ghost use Rattle.numeral.specs.Numeral.{splice};
-ghost use Rattle.rules.specs.Bytes.{bytes, hexText};
+ghost use Rattle.numeral.specs.Numeral.{size, shortest, splice};
+ghost use Rattle.rules.specs.Bytes.{bytes, digitsText, hexText};
 ghost use Rattle.rules.specs.Coding.{wordCount, bankSize};
 ghost use Rattle.rules.specs.Raw.{afi, rawText};
 
@@ -14,6 +14,28 @@ pub fn words(bank: &[u8]) -> usize
     ensures { λ r. ⌜ r ≡ wordCount (now (bank .entry)) ⌝ }
 {
     (bank[0] / 8) as usize
+}
+
+// How many digits the bit total of so many words has: 0, or 16 to 496.
+fn total_digits(count: usize) -> usize
+    requires { ⌜ count < 32 ⌝ }
+    ensures { λ r. ⌜ r ≡ size 10 (16 * count) ⌝ }
+{
+    if count == 0 {
+        return 1;
+    }
+    if count < 7 { 2 } else { 3 }
+}
+
+// Writes the bit total of so many words from index `at` on, and returns the index after it.
+fn put_total(out: &mut [u8], at: usize, count: usize) -> usize
+    requires { ⌜ (count < 32) × (at + size 10 (16 * count) ≤ length (now out)) ⌝ }
+    ensures { λ r. ⌜ r ≡ at + size 10 (16 * count) ⌝ }
+    ensures { λ _. ⌜ now (out .exit) ≡ splice (now (out .entry)) at (digitsText (shortest 10 (16 * count))) ⌝ }
+{
+    let n = total_digits(count);
+    digits::put_digits(out, at, n, (16 * count) as u64);
+    at + n
 }
 
 // Writes `.x` and src in hexadecimal from index `at` on, and returns the index after it.
@@ -48,7 +70,7 @@ pub fn write(bank: &[u8], out: &mut [u8]) -> usize
 {
     let count = words(bank);
     digits::put_bytes(out, 0, b"urn:epc:raw:");
-    let total = digits::put_decimal(out, 12, (16 * count) as u64);
+    let total = put_total(out, 12, count);
     let end = put_afi(out, total, bank);
     let size = 2 + 2 * count;
     put_field(out, end, &bank[2..size])

@@ -16,21 +16,17 @@ fits : (c : tie.After-words) → let b = c .before .before .before .args .bank .
     12 + size 10 (16 * c .words .result) + length (afi b) + 2 + 4 * c .words .result ≤ 145
 fits c = let s = c .before .before .before in line-fits (s .args .bank .now) (s .pre .1) (c .words .ensures) refl refl
 
-mul-total : tie.Need-mul-put-decimal
-mul-total c =
-    let w = c .before .before .before .before .before .before in
-    omega (arith, w .words .ensures, at-lt (w .before .before .before .args .bank .now) 0x10 5)
-
-put-decimal-requires : tie.Need-put-decimal-requires
-put-decimal-requires c κs =
+put-total-requires : tie.Need-put-total-requires
+put-total-requires c κs =
     let start = c .before .before .before in
-    omega (arith, fits (start .before .before .before), start .put-bytes .kept .0)
+    let w = start .before .before .before in
+    (omega (arith, w .words .ensures, at-lt (w .before .before .before .args .bank .now) 0x10 5), omega (arith, fits w, start .put-bytes .kept .0))
 
 put-afi-requires : tie.Need-put-afi-requires
 put-afi-requires c κs =
     let total = c .before .before .before in
     let start = total .before .before .before .before in
-    (search needs, omega (arith, fits (start .before .before .before), total .put-decimal .ensures .0, total .put-decimal .kept .0, start .put-bytes .kept .0))
+    (search needs, omega (arith, fits (start .before .before .before), total .put-total .ensures .0, total .put-total .kept .0, start .put-bytes .kept .0))
 
 put-field-requires : tie.Need-put-field-requires
 put-field-requires c κs =
@@ -38,7 +34,7 @@ put-field-requires c κs =
     let total = end .before .before .before .before in
     let start = total .before .before .before .before in
     simp (length-take, length-drop)
-    (omega (arith, fits (start .before .before .before), end .put-afi .ensures .0, end .put-afi .kept .0, total .put-decimal .ensures .0, total .put-decimal .kept .0, start .put-bytes .kept .0))
+    (omega (arith, fits (start .before .before .before), end .put-afi .ensures .0, end .put-afi .kept .0, total .put-total .ensures .0, total .put-total .kept .0, start .put-bytes .kept .0))
 
 returns : tie.Need-returns
 returns c =
@@ -48,8 +44,8 @@ returns c =
     let start = total .before .before .before .before in
     let count = start .before .before .before in
     let s = count .before .before .before in
-    line-written (s .args .bank .now) (s .pre .1) (count .words .ensures) (total .put-decimal .ensures .0) (end .put-afi .ensures .0)
-    (s .args .out .now) _ _ _ _ _ (start .put-bytes .ensures .bytes) (total .put-decimal .ensures .1) (end .put-afi .ensures .1) (put .0) (put .1)
+    line-written (s .args .bank .now) (s .pre .1) (count .words .ensures) (total .put-total .ensures .0) (end .put-afi .ensures .0)
+    (s .args .out .now) _ _ _ _ _ (start .put-bytes .ensures .bytes) (total .put-total .ensures .1) (end .put-afi .ensures .1) (put .0) (put .1)
 
 pub write-spec : {M : Type 1} → statement M
 write-spec =
@@ -58,8 +54,7 @@ write-spec =
     (λ c κs. search needs)
     (λ c. search needs)
     (λ c κs. search needs)
-    mul-total
-    put-decimal-requires
+    put-total-requires
     put-afi-requires
     (λ c. search needs)
     (λ c. search needs)
