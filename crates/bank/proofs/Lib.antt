@@ -1,5 +1,6 @@
 -- Laws: of reading, then of writing.
 mod Sizes
+mod Strings
 mod Groups
 mod Zeros
 mod Stages

@@ -1,5 +1,6 @@
 // A bank to the record of its tag: the rules 9 to 19, in their order (document 01, "Numbers given, and when"). Each function goes on where the one before it
 // stopped, and answers what the whole bank reads as.
+use super::eights;
 use super::reader;
 use rules::Scheme;
 use scheme::counts::BankAddress;
@@ -104,8 +105,10 @@ fn groups(bank: &[u8], at: usize, k: usize) -> [u8; 20]
     let mut groups = [0u8; 20];
     let mut i = 0;
     while i < k {
-        groups[i] = reader::field(bank, CodeBit(at + 7 * i), 7) as u8;
-        i += 1;
+        let n = eights::next(k - i);
+        let v = reader::field(bank, CodeBit(at + 7 * i), 7 * n);
+        eights::part(&mut groups, i, n, v);
+        i += n;
     }
     groups
 }

@@ -1,4 +1,5 @@
 // The bank of a tag, written from its record (document 01, "The bank").
+use super::eights;
 use bits::Stream;
 use rules::Table;
 use scheme::lines;
@@ -73,8 +74,9 @@ fn put_string(out: &mut [u8], s: Stream, characters: [u8; 20], k: usize) -> Stre
     let mut end = s;
     let mut i = 0;
     while i < k {
-        end = bits::push(out, end, 7, characters[i] as u64);
-        i += 1;
+        let n = eights::next(k - i);
+        end = bits::push(out, end, 7 * n, eights::joined(characters, i, n));
+        i += n;
     }
     end
 }

@@ -1,13 +1,14 @@
 -- `spread` and `gather` change the base: what is spread is gathered again, and the other way round.
 use mathlib.Core.Path.{_≡_, refl, sym, ap, _∙_}
-use Prim.Native.Nat.{ℕ, zero, suc, _*_, _^_, _<_}
+use Prim.Native.Nat.{ℕ, zero, suc, _+_, _*_, _^_, _≤_, _<_}
 use native.Mathlib.Nat.{mul-zero, one-le-pow, mul-suc, add-comm}
+use native.Mathlib.Omega.{arith}
 use mathlib.Core.List.{List, [], _∷_, _++_, append-assoc}
-use lib.ListN.{length, take, drop, getD, length-append}
-use lib.Seq.{take-at, drop-at, drop-cons, drop-drop, drop-nil, take-nil, take-add}
+use lib.ListN.{length, take, drop, getD, length-append, length-drop}
+use lib.Seq.{take-at, drop-at, drop-cons, drop-drop, drop-nil, take-nil, take-add, length-take-le}
 use Rattle.numeral.specs.Numeral.{value, numeral, Digits, spread, gather}
 use Rattle.numeral.proofs.Arithmetic.{pow-mul}
-use Rattle.numeral.proofs.Values.{length-numeral, digits-at, digits-append, digits-numeral, value-append, value-numeral, value-numeral-lt, value-inj, numeral-of-value}
+use Rattle.numeral.proofs.Values.{length-numeral, digits-at, digits-append, digits-take, digits-drop, digits-numeral, value-append, value-numeral, value-numeral-lt, value-inj, numeral-of-value}
 
 pub length-spread : (b n : ℕ) (ds : List ℕ) → length (spread b n ds) ≡ n * length ds
 unfolding spread
@@ -81,6 +82,17 @@ spread-gather b n k ds pos h e = spread-numeral b n k (value b ds) pos ∙ numer
 pub gather-spread : (b n k : ℕ) (xs : List ℕ) → Digits (b ^ n) xs → length xs ≡ k → gather b n k (spread b n xs) ≡ xs
 unfolding gather
 gather-spread b n k xs h e = rw (value-spread b n xs h) (numeral-of-value (b ^ n) k xs h e)
+
+-- some of what is gathered, gathered from its own digits
+pub gather-part : (b n k i m : ℕ) (ds : List ℕ) → 0 < b → Digits b ds → length ds ≡ n * k → i + m ≤ k
+    → gather b n m (take (n * m) (drop (n * i) ds)) ≡ take m (drop i (gather b n k ds))
+gather-part b n k i m ds pos h e l =
+    let xs = gather b n k ds in
+    let digits = digits-take (b ^ n) m (drop i xs) (digits-drop (b ^ n) i xs (digits-gather b n k ds pos)) in
+    let own : take (n * m) (drop (n * i) ds) ≡ spread b n (take m (drop i xs)) =
+    ap (λ (l : List ℕ). take (n * m) (drop (n * i) l)) (sym (spread-gather b n k ds pos h e)) ∙ rw (drop-spread b n i xs, take-spread b n m (drop i xs)) in
+    ap (gather b n m) own
+    ∙ gather-spread b n m (take m (drop i xs)) digits (length-take-le m (drop i xs) (rw (length-drop, length-gather) (omega arith)))
 
 pub gather-at : (b n k i : ℕ) (ds : List ℕ) → 0 < b → Digits b ds → length ds ≡ n * k → i < k → getD (gather b n k ds) i 0 ≡ value b (take n (drop (n * i) ds))
 gather-at b n k i ds pos h e l =

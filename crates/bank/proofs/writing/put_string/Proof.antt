@@ -1,38 +1,45 @@
 -- The invariant: the first i characters are written. The measure is what is left of k.
 use mathlib.Core.Path.{_≡_}
-use Prim.Native.Nat.{_-_, _≤_, _<_}
+use Prim.Native.Nat.{_+_, _-_, _≤_}
 use native.Mathlib.Omega.{arith}
 use lib.ListN.{length}
 use borrow.Author.Needs.{needs}
 use Rattle.bits.proofs.Streams.{kept}
-use Rattle.bank.proofs.PackedStrings.{Begun, none-yet, takes-next, one-more}
+use Rattle.bank.proofs.PackedStrings.{Begun, none-yet, takes-next, some-more}
 use Rattle.bank.proofs.writing.put_string.Statement.{statement}
 use Rattle.bank.proofs.writing.put_string.Tie as tie
 
 abbrev Inv-loop : tie.InvT-loop
-Inv-loop out₀ k characters end₀ i₀ out end i = (i ≤ k) × Begun out₀ end₀ characters i out end
+Inv-loop out₀ characters k end₀ i₀ out end i = (i ≤ k) × Begun out₀ end₀ characters i out end
 
 abbrev μ-loop : tie.MeasureT-loop
-μ-loop out₀ k characters end₀ i₀ out end i = k - i
+μ-loop out₀ characters k end₀ i₀ out end i = k - i
 
-inside : (c : tie.In-loop Inv-loop μ-loop) → c .before .loop .i < length (c .before .before .before .args .t3)
-inside c = let s = c .before .before .before in omega (arith, s .good .1 .1 .0, s .pre .most)
+-- the next ones are among the k
+inside : (c : tie.After-next Inv-loop μ-loop) → c .before .before .loop .i + c .next .result ≤ c .before .before .before .before .args .k
+inside c = search needs
+
+among : (c : tie.After-next Inv-loop μ-loop) → c .before .before .loop .i + c .next .result ≤ length (c .before .before .before .before .args .characters)
+among c = let s = c .before .before .before .before in omega (arith, inside c, s .good .1 .1 .0, s .pre .most)
 
 loop-holds : tie.Need-loop-holds Inv-loop μ-loop
 loop-holds c = let s = c .before in (search needs, none-yet (s .args .out .now) (s .pre))
 
 push-requires : tie.Need-push-requires Inv-loop μ-loop
 push-requires c κs =
-    let t = c .before in
-    let s = t .before .before .before in
-    takes-next (s .args .out .now) (s .pre) (t .loop-test .taken) (inside t) (t .before .loop .inv .1)
+    let n = c .before .before in
+    let s = n .before .before .before .before in
+    let v = n .before .before .loop in
+    rw (c .joined .ensures) (takes-next (s .args .out .now) (s .pre) (v .i) (n .next .result) (inside n) (search needs) (among n) (v .inv .1))
 
 loop-again : tie.Need-loop-again Inv-loop μ-loop
 loop-again c =
     let p = c .before .before in
-    let t = p .before .before in
-    let s = t .before .before .before in
-    (search needs, one-more (s .args .out .now) (s .pre) (t .loop-test .taken) (inside t) (t .before .loop .inv .1) (p .push .ensures))
+    let j = p .before in
+    let n = j .before .before in
+    let s = n .before .before .before .before in
+    let v = n .before .before .loop in
+    (search needs, some-more (s .args .out .now) (s .pre) (v .i) (n .next .result) (inside n) (search needs) (among n) (v .inv .1) (rw (j .joined .ensures) at (p .push .ensures)))
 
 same-length : tie.Need-same-length Inv-loop μ-loop
 same-length c = kept (c .before .loop .inv .1 .written)
@@ -51,7 +58,9 @@ put-string-spec =
     μ-loop
     loop-holds
     (λ c. search needs)
+    (λ c κs. search needs)
     (λ c. search needs)
+    (λ c κs. search needs)
     push-requires
     (λ c. search needs)
     (λ c. search needs)

@@ -1,0 +1,40 @@
+// The characters of a string eight at a time: their 56 bits are one number, read and written at once.
+ghost use mathlib.Core.Path.{_≡_};
+ghost use Prim.Native.Nat.{_+_, _≤_, min};
+ghost use lib.ListN.{length, take, drop};
+ghost use Rattle.numeral.specs.Numeral.{value, numeral, Digits, splice};
+
+// How many of the characters that are left come next.
+pub fn next(left: usize) -> usize
+    ensures { λ r. ⌜ r ≡ min left 8 ⌝ }
+{
+    if left < 8 { left } else { 8 }
+}
+
+// The number that the n characters from index `from` on are.
+pub fn joined(characters: [u8; 20], from: usize, n: usize) -> u64
+    requires { ⌜ (n ≤ 8) × (from + n ≤ 20) × Digits 128 characters ⌝ }
+    ensures { λ r. ⌜ r ≡ value 128 (take n (drop from characters)) ⌝ }
+{
+    let mut v: u64 = 0;
+    let mut i = 0;
+    while i < n {
+        v = v * 128 + characters[from + i] as u64;
+        i += 1;
+    }
+    v
+}
+
+// Stores the n characters that the number v is from index `from` on, the last one first.
+pub fn part(characters: &mut [u8], from: usize, n: usize, v: u64)
+    requires { ⌜ from + n ≤ length (now characters) ⌝ }
+    ensures { λ _. ⌜ now (characters .exit) ≡ splice (now (characters .entry)) from (numeral 128 n v) ⌝ }
+{
+    let mut i = n;
+    let mut rest = v;
+    while 0 < i {
+        i -= 1;
+        characters[from + i] = (rest % 128) as u8;
+        rest = rest / 128;
+    }
+}
