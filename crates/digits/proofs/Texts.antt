@@ -1,18 +1,17 @@
 -- Digits written one after the other: the text so far, and one more.
 use mathlib.Core.Path.{_≡_, refl, sym, ap, _∙_}
-use Prim.Native.Nat.{ℕ, suc, _+_, _-_, _*_, _/_, _%_, _^_, _≤_, _<_}
+use Prim.Native.Nat.{ℕ, suc, _+_, _-_, _*_, _/_, _%_, _≤_, _<_}
 use Prim.Native.Char.{code}
-use native.Mathlib.Numerals.{add-one}
 use native.Mathlib.Omega.{arith}
 use mathlib.Core.List.{List, [], _∷_, _++_, append-assoc, map-append}
 use mathlib.Core.Bool.{cond}
-use lib.ListN.{length, take, drop, getD, set, length-append, length-map}
-use lib.Seq.{take-suc, length-take-le, set-append-left, take-set-lt, take-suc-set}
+use lib.ListN.{length, take, getD, set, length-append, length-map}
+use lib.Seq.{take-suc, length-take-le}
 use lib.Dec.{lit<, ltb, eqb, eqb→eq}
 use Rattle.numeral.specs.Numeral.{numeral, size, shortest, splice}
-use Rattle.numeral.proofs.Values.{length-numeral, numeral-nil, numeral-append, numeral-snoc}
+use Rattle.numeral.proofs.Values.{length-numeral, numeral-snoc}
 use Rattle.numeral.proofs.Shortest.{length-shortest, shortest-small, shortest-large}
-use Rattle.numeral.proofs.Splices.{splice-one, splice-snoc}
+use Rattle.numeral.proofs.Splices.{splice-one, splice-snoc, splice-behind}
 use Rattle.rules.specs.Bytes.{digitsText, hexDigit, hexText}
 use Rattle.rules.proofs.Tests.{below-is}
 
@@ -34,20 +33,13 @@ module _ (s : List ℕ) (at v : ℕ) where
   put-large h k =
       rw (shortest-large 10 (lit< tt) v h) (put-last s at (shortest 10 (v / 10)) (v % 10) (size 10 (v / 10)) (length-shortest 10 (lit< tt) (v / 10)) k)
 
--- one more element, stored in front of a piece
-splice-cons : (s : List ℕ) (p : ℕ) (x : List ℕ) (a : ℕ) → p < length s → set (splice s (p + 1) x) p a ≡ splice s p (a ∷ x)
-unfolding splice
-splice-cons s p x a h =
-    let e : p + 1 + length x ≡ p + length (a ∷ x) = omega arith in
-    let front : set (take (p + 1) s) p a ≡ take p s ++ (a ∷ []) = rw add-one (sym (take-set-lt (suc p) s p a (omega arith)) ∙ take-suc-set s p a h) in
-    let l : length (take (p + 1) s) ≡ p + 1 = length-take-le (p + 1) s (omega arith) in
-    rw (append-assoc, set-append-left (take (p + 1) s) (x ++ drop (p + 1 + length x) s) p a (omega arith), front, append-assoc, append-assoc, e)
-
--- the last k of n digits stand behind index i; one more in front of them
-pub put-digit : (s : List ℕ) (at i k v : ℕ) → at + i < length s
-    → set (splice s (at + i + 1) (digitsText (numeral 10 k v))) (at + i) (code "0" + v / 10 ^ k % 10) ≡ splice s (at + i) (digitsText (numeral 10 (1 + k) v))
-put-digit s at i k v h =
-    rw (numeral-append 10 1 k v, numeral-snoc 10 0 (v / 10 ^ k), numeral-nil) (splice-cons s (at + i) (digitsText (numeral 10 k v)) (code "0" + v / 10 ^ k % 10) h)
+-- a number's last digit first, and the digits before it afterwards
+pub put-digit : (s : List ℕ) (at v n : ℕ) → at + n < length s
+    → splice (set s (at + n) (code "0" + v % 10)) at (digitsText (numeral 10 n (v / 10))) ≡ splice s at (digitsText (numeral 10 (n + 1) v))
+put-digit s at v n h =
+    let ds : List ℕ = numeral 10 n (v / 10) in
+    splice-behind s at (digitsText ds) (code "0" + v % 10) (at + n) (ap (at +_) (length-text ds ∙ length-numeral 10 n (v / 10))) h
+    ∙ rw (numeral-snoc 10 n v) (ap (splice s at) (sym (map-append (code "0" +_) ds (v % 10 ∷ []))))
 
 -- Hexadecimal.
 

@@ -1,12 +1,12 @@
 -- `splice`: one piece written after the other, and in another base.
 use mathlib.Core.Path.{_≡_, refl, sym, _∙_}
-use Prim.Native.Nat.{ℕ, _+_, _*_, _/_, _^_, _≤_, _<_}
+use Prim.Native.Nat.{ℕ, suc, _+_, _*_, _/_, _^_, _≤_, _<_}
 use native.Mathlib.Nat.{add-zero, add-assoc, mul-add}
 use native.Mathlib.Numerals.{add-one}
 use native.Mathlib.Omega.{arith}
 use mathlib.Core.List.{List, [], _∷_, _++_, append-assoc, append-nil}
 use lib.ListN.{length, take, drop, set, length-append, length-take, length-drop, take-append-drop}
-use lib.Seq.{take-at, drop-at, drop-append-add, drop-drop, length-take-le, set-split, append-snoc, take-append-seam}
+use lib.Seq.{take-at, drop-at, drop-append-add, drop-drop, length-take-le, set-split, append-snoc, take-append-seam, take-set-le}
 use Rattle.numeral.specs.Numeral.{numeral, Digits, spread, gather, splice}
 use Rattle.numeral.proofs.Arithmetic.{div-pow}
 use Rattle.numeral.proofs.Values.{length-numeral, digits-append, digits-take, digits-drop, numeral-append}
@@ -61,6 +61,14 @@ pub splice-snoc : (s : List ℕ) (p : ℕ) (x : List ℕ) (a q : ℕ) → p + le
 splice-snoc s p x a q e h =
     let l : length (splice s p x) ≡ length s = length-splice s p x (omega arith) in
     sym (splice-one (splice s p x) q a (omega arith)) ∙ splice-after s p x (a ∷ []) q (omega arith) e
+
+-- an element stored first, and the piece that ends before it afterwards
+pub splice-behind : (s : List ℕ) (p : ℕ) (x : List ℕ) (a q : ℕ) → p + length x ≡ q → q < length s → splice (set s q a) p x ≡ splice s p (x ++ (a ∷ []))
+unfolding splice
+splice-behind s p x a q e h =
+    let rest : drop q (set s q a) ≡ a ∷ drop (suc q) s = rw (set-split s q a h) (drop-at (take q s) (a ∷ drop (suc q) s) q (length-take-le q s (omega arith))) in
+    let l : p + length (x ++ (a ∷ [])) ≡ suc q = simp length-append (omega arith) in
+    rw (take-set-le p s q a (omega arith), e, rest, l) (simp append-assoc)
 
 -- the next piece of one numeral: k digits of v are written, and n more follow
 pub splice-more : (b : ℕ) (s : List ℕ) (p k n r v : ℕ) → p ≤ length s
