@@ -112,3 +112,9 @@ moved-all l l₁ from m n h e i =
 -- nothing is written
 pub wrote-nothing : (l : List ℕ) → Wrote [] l 0 l
 wrote-nothing l = record { count = refl; output = sym (splice-nil l 0) }
+
+-- what is written is no longer than the output
+pub wrote-within : (w l after : List ℕ) (n : ℕ) → Wrote w l n after → length after ≡ length l → n ≤ length after
+wrote-within w l after n h e =
+    let k = ap length (h .output ∙ splice-front l w) in
+    omega (arith, h .count, k, length-append w (drop (length w) l), length-drop (length w) l)
