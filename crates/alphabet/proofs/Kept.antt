@@ -1,7 +1,6 @@
 -- The characters that are kept: one by one, and what a caller finds of them.
 use Prim.Native.Nat.{ℕ, zero, suc, _+_, _-_, _≤_}
 use mathlib.Core.Path.{_≡_, refl, sym, _∙_, ap}
-use mathlib.Core.Bool.{true, false}
 use mathlib.Core.List.{List, [], _∷_, _++_}
 use mathlib.Core.Option.{Option, none, some}
 use native.Mathlib.Numerals.{add-one}
@@ -10,11 +9,8 @@ use native.Mathlib.Omega.{arith}
 use lib.ListN.{length, take, set, replicate}
 use lib.Seq.{sets, set-out, take-take, take-append-add}
 use Rattle.rules.specs.TextNumbers.{put}
-use Rattle.alphabet.specs.declared.Spelled.{Spelled}
-use Rattle.alphabet.specs.declared.Part.{Part}
-use Rattle.alphabet.specs.declared.Part.the-variants.{Characters, Wrong}
 use Rattle.alphabet.specs.Strings.{spelledOf}
-use Rattle.alphabet.specs.Readers.{partOf, Kept}
+use Rattle.alphabet.specs.Readers.{counted, Kept}
 
 sets-out : (cs l : List ℕ) (n : ℕ) → length l ≤ n → sets l n cs ≡ l
 sets-out [] l n h = refl
@@ -44,25 +40,17 @@ over-zeros [] k j h = sym (take-zeros k j (omega arith))
 over-zeros (c ∷ cs) zero j h = sets-out cs [] 1 (omega arith)
 over-zeros (c ∷ cs) (suc k) j h = sets-cons cs (replicate k 0) c 0 ∙ ap (c ∷_) (over-zeros cs k j (omega arith))
 
-pub read-right : (o : Option (List ℕ)) (p : Part) (n : ℕ) (z : List ℕ) → p ≡ partOf 0 o → p ≡ Characters n → Kept o 0 (replicate 20 0) z
-    → record { right = true; count = n; characters = z } ≡ spelledOf o
-read-right none p n z e f k = let x : _≡_ {A = ℕ} 0 1 = cc in absurd (omega arith)
-read-right (some cs) p n z e f k = let m : n ≡ length cs = cc (zero-add (length cs)) in rw (m, k ∙ over-zeros cs 20 20 (omega arith))
+pub read-right : (o : Option (List ℕ)) (n : ℕ) (z : List ℕ) → n ≡ counted 0 o → ¬ (n ≡ 0) → Kept o 0 (replicate 20 0) z
+    → record { count = n; characters = z } ≡ spelledOf o
+read-right none n z e f k = absurd (f e)
+read-right (some cs) n z e f k = let m : n ≡ length cs = e ∙ zero-add (length cs) in rw (m, k ∙ over-zeros cs 20 20 (omega arith))
 
-pub read-wrong : (o : Option (List ℕ)) (p : Part) → p ≡ partOf 0 o → p ≡ Wrong → record { right = false; count = 0; characters = replicate 20 0 } ≡ spelledOf o
-read-wrong none p e f = refl
-read-wrong (some cs) p e f = let x : _≡_ {A = ℕ} 0 1 = cc in absurd (omega arith)
+pub read-wrong : (o : Option (List ℕ)) (n : ℕ) → n ≡ counted 0 o → n ≡ 0 → record { count = n; characters = replicate 20 0 } ≡ spelledOf o
+read-wrong none n e f = rw f
+read-wrong (some []) n e f = rw f
+read-wrong (some (c ∷ cs)) n e f = absurd (omega arith)
 
 -- What a caller finds: the characters, where they are at most k.
-pub spelled-some : (o : Option (List ℕ)) (s : Spelled) → s ≡ spelledOf o → s .right ≡ true
-    → (cs : List ℕ) × (o ≡ some cs) × (s .count ≡ length cs) × (s .characters ≡ take 20 (cs ++ replicate 20 0))
-spelled-some none s e r = let x : _≡_ {A = ℕ} 0 1 = cc in absurd (omega arith)
-spelled-some (some cs) s e r = (cs, refl, rw e, rw e)
-
-pub spelled-none : (o : Option (List ℕ)) (s : Spelled) → s ≡ spelledOf o → s .right ≡ false → o ≡ none
-spelled-none none s e r = refl
-spelled-none (some cs) s e r = let x : _≡_ {A = ℕ} 0 1 = cc in absurd (omega arith)
-
 pub first-characters : (cs : List ℕ) (k : ℕ) → length cs ≤ k → k ≤ 20 → take k (take 20 (cs ++ replicate 20 0)) ≡ cs ++ replicate (k - length cs) 0
 first-characters cs k h l = take-take k 20 (cs ++ replicate 20 0) l ∙ go k (k - length cs) (omega arith) (omega arith)
   where

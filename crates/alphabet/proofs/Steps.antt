@@ -14,10 +14,9 @@ use Rattle.rules.specs.Bytes.{percent}
 use Rattle.rules.specs.Characters.{tableA1, escaped, plain}
 use Rattle.rules.specs.TextNumbers.{put, charactersIn}
 use Rattle.rules.proofs.Spellings.{itself-of}
-use Rattle.alphabet.specs.declared.Part.the-variants.{Characters}
 use Rattle.alphabet.specs.declared.Found.{Found}
 use Rattle.alphabet.specs.declared.Found.the-variants.{Character, Nothing}
-use Rattle.alphabet.specs.Readers.{partOf, foundOf, escapeIn, Width}
+use Rattle.alphabet.specs.Readers.{counted, foundOf, escapeIn, Width}
 
 -- What the rules read at a byte that stands for itself, at a percent sign, at any other byte, and at the end.
 other-of : (c : ℕ) (t : List ℕ) → plain c ≡ false → ¬ (c ≡ percent) → charactersIn (c ∷ t) ≡ none
@@ -72,10 +71,10 @@ module _ (x : List ℕ) (i : ℕ) (r : Found) (e : r ≡ foundOf (escapeIn (drop
   no-escape f = rw (percent-of (drop i x), escape-none (escapeIn (drop i x)) r e f)
 
 -- At the end nothing more is counted; a character in front is one more.
-pub count-end : (x : List ℕ) (i n : ℕ) → length x ≤ i → Characters n ≡ partOf n (charactersIn (drop i x))
+pub count-end : (x : List ℕ) (i n : ℕ) → length x ≤ i → n ≡ counted n (charactersIn (drop i x))
 count-end x i n h = rw (at-end x i h, add-zero)
 
-pub count-more : (n c : ℕ) (o p : Option (List ℕ)) → p ≡ put (some c) o → partOf (n + 1) o ≡ partOf n p
+pub count-more : (n c : ℕ) (o p : Option (List ℕ)) → p ≡ put (some c) o → counted (n + 1) o ≡ counted n p
 count-more n c none p e = rw e
 count-more n c (some cs) p e = let k : n + 1 + length cs ≡ n + suc (length cs) = omega arith in rw (e, k)
 
@@ -87,5 +86,5 @@ module _ (x : List ℕ) (i : ℕ) where
   pub no-width : i ≤ length x → charactersIn (drop i x) ≡ none → Width x i 0
   no-width h e = record { within = omega arith; nothing = λ _. e; one = λ n. absurd (n refl) }
 
-  pub width-counted : (w n : ℕ) → Width x i w → ¬ (w ≡ 0) → partOf (n + 1) (charactersIn (drop (i + w) x)) ≡ partOf n (charactersIn (drop i x))
+  pub width-counted : (w n : ℕ) → Width x i w → ¬ (w ≡ 0) → counted (n + 1) (charactersIn (drop (i + w) x)) ≡ counted n (charactersIn (drop i x))
   width-counted w n d z = let (c, e) = d .one z in count-more n c (charactersIn (drop (i + w) x)) (charactersIn (drop i x)) e

@@ -7,15 +7,13 @@ use lib.ListN.{length, drop}
 use lib.Seq.{sets}
 use Rattle.rules.specs.Characters.{escaped}
 use Rattle.rules.specs.TextNumbers.{escape, put, charactersIn}
-use Rattle.alphabet.specs.declared.Part.{Part}
-use Rattle.alphabet.specs.declared.Part.the-variants.{Characters, Wrong}
 use Rattle.alphabet.specs.declared.Found.{Found}
 use Rattle.alphabet.specs.declared.Found.the-variants.{Character, Nothing}
 
--- the number of characters, where n are counted already
-abbrev pub partOf : ℕ → Option (List ℕ) → Part
-partOf n none = Wrong
-partOf n (some cs) = Characters (n + length cs)
+-- the number of characters, where n are counted already; 0 for a wrong form
+abbrev pub counted : ℕ → Option (List ℕ) → ℕ
+counted n none = 0
+counted n (some cs) = n + length cs
 
 -- z is l with the characters from place n on, as far as there is room; after a wrong form it is whatever was kept
 abbrev pub Kept : Option (List ℕ) → ℕ → List ℕ → List ℕ → Type 0

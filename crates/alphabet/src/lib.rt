@@ -10,36 +10,30 @@ ghost use Rattle.rules.specs.Bytes.{percent};
 ghost use Rattle.rules.specs.Characters.{plain, spelling, stringText};
 ghost use Rattle.rules.specs.TextNumbers.{charactersIn};
 ghost use Rattle.rules.specs.BankNumbers.{stringIn};
-ghost use Rattle.alphabet.specs.Strings.{classOf, classTable, spelledOf, countOf};
-ghost use Rattle.alphabet.specs.Readers.{partOf, Kept, escapeIn, foundOf, Width};
+ghost use Rattle.alphabet.specs.Strings.{ClassTable, classOf, spelledOf, countOf};
+ghost use Rattle.alphabet.specs.Readers.{counted, Kept, escapeIn, foundOf, Width};
 
-// The class of each byte, by its value: made once for a string, and lent to all who read or write it.
+// The table, for those who look up more than one byte: a constant is made anew wherever it is named.
 fn class_table() -> [u8; 256]
-    ensures { λ r. ⌜ r ≡ classTable ⌝ }
+    ensures { λ r. ⌜ ClassTable r ⌝ }
 {
     table::CLASS
 }
 
 // The class of a byte.
-fn class(classes: &[u8], c: u8) -> u8
-    requires { ⌜ now classes ≡ classTable ⌝ }
+fn class(c: u8, classes: &[u8; 256]) -> u8
+    requires { ⌜ ClassTable (now classes) ⌝ }
     ensures { λ r. ⌜ r ≡ classOf c ⌝ }
 {
     classes[c as usize]
 }
 
-// What a text spells: the number of its characters, and the first twenty of them, zeros behind; or that its form is wrong.
-// No scheme holds more than twenty; the number goes on, since a wrong form (7) is told before too many characters (8).
+// What a text spells: the number of its characters, and the first twenty of them, zeros behind; 0 and zeros where its form is
+// wrong, which an empty text's is too. No scheme holds more than twenty; the number goes on, since a wrong form (7) is told before
+// too many characters (8).
 pub struct Spelled {
-    pub right: bool,
     pub count: usize,
     pub characters: [u8; 20],
-}
-
-// What the readers answer: the number of characters, or a wrong form.
-enum Part {
-    Characters(usize),
-    Wrong,
 }
 
 // The character of an escape, if it is one.
@@ -82,12 +76,12 @@ fn character_at(text: &[u8], at: usize) -> Found
 }
 
 // How many bytes the character at `at` takes, 0 where none begins there.
-fn width(text: &[u8], at: usize, classes: &[u8]) -> usize
-    requires { ⌜ (at < length (now text)) × (now classes ≡ classTable) ⌝ }
+fn width(text: &[u8], at: usize, classes: &[u8; 256]) -> usize
+    requires { ⌜ (at < length (now text)) × ClassTable (now classes) ⌝ }
     ensures { λ r. ⌜ Width (now (text .entry)) at r ⌝ }
 {
     let b = text[at];
-    if class(classes, b) == 1 {
+    if class(b, classes) == 1 {
         return 1;
     }
     if b != b'%' {
@@ -101,21 +95,21 @@ fn width(text: &[u8], at: usize, classes: &[u8]) -> usize
 
 // Counts the characters from `at` on, where n are counted already, and keeps none. It is a loop, and `escape` goes on here
 // once the room is full: so the two readers call each other no more often than there is room, however long the text is.
-fn rest(text: &[u8], at: usize, n: usize, classes: &[u8]) -> Part
-    requires { ⌜ (at ≤ length (now text)) × (n ≤ at) × (now classes ≡ classTable) ⌝ }
-    ensures { λ r. ⌜ r ≡ partOf n (charactersIn (drop at (now (text .entry)))) ⌝ }
+fn rest(text: &[u8], at: usize, n: usize, classes: &[u8; 256]) -> usize
+    requires { ⌜ (at ≤ length (now text)) × (n ≤ at) × ClassTable (now classes) ⌝ }
+    ensures { λ r. ⌜ r ≡ counted n (charactersIn (drop at (now (text .entry)))) ⌝ }
 {
     let mut i = at;
     let mut m = n;
     while i < text.len() {
         let w = width(text, i, classes);
         if w == 0 {
-            return Part::Wrong;
+            return 0;
         }
         i += w;
         m += 1;
     }
-    Part::Characters(m)
+    m
 }
 
 // Keeps a character at its place, where there is room.
@@ -129,36 +123,36 @@ fn keep(kept: &mut [u8], n: usize, c: u8)
 
 // "A plain character and an escape may follow each other freely" (document 01): two readers that call each other.
 // This one reads characters that stand for themselves, and goes on with `escape` at a percent sign.
-fn plain_run(text: &[u8], at: usize, n: usize, kept: &mut [u8], classes: &[u8]) -> Part
-    requires { ⌜ (at ≤ length (now text)) × (n ≤ at) × (now classes ≡ classTable) ⌝ }
-    ensures { λ r. ⌜ r ≡ partOf n (charactersIn (drop at (now (text .entry)))) ⌝ }
+fn plain_run(text: &[u8], at: usize, n: usize, kept: &mut [u8], classes: &[u8; 256]) -> usize
+    requires { ⌜ (at ≤ length (now text)) × (n ≤ at) × ClassTable (now classes) ⌝ }
+    ensures { λ r. ⌜ r ≡ counted n (charactersIn (drop at (now (text .entry)))) ⌝ }
     ensures { λ _. ⌜ Kept (charactersIn (drop at (now (text .entry)))) n (now (kept .entry)) (now (kept .exit)) ⌝ }
 {
     let mut i = at;
     let mut m = n;
     while i < text.len() {
         let b = text[i];
-        if class(classes, b) == 1 {
+        if class(b, classes) == 1 {
             keep(kept, m, b);
             m += 1;
             i += 1;
         } else if b == b'%' {
             return escape(text, i + 1, m, kept, classes);
         } else {
-            return Part::Wrong;
+            return 0;
         }
     }
-    Part::Characters(m)
+    m
 }
 
 // Reads an escape whose percent sign stands before `at`, and goes on with `plain_run`.
-fn escape(text: &[u8], at: usize, n: usize, kept: &mut [u8], classes: &[u8]) -> Part
-    requires { ⌜ (at ≤ length (now text)) × (n < at) × (now classes ≡ classTable) ⌝ }
-    ensures { λ r. ⌜ r ≡ partOf n (charactersIn (percent ∷ drop at (now (text .entry)))) ⌝ }
+fn escape(text: &[u8], at: usize, n: usize, kept: &mut [u8], classes: &[u8; 256]) -> usize
+    requires { ⌜ (at ≤ length (now text)) × (n < at) × ClassTable (now classes) ⌝ }
+    ensures { λ r. ⌜ r ≡ counted n (charactersIn (percent ∷ drop at (now (text .entry)))) ⌝ }
     ensures { λ _. ⌜ Kept (charactersIn (percent ∷ drop at (now (text .entry)))) n (now (kept .entry)) (now (kept .exit)) ⌝ }
 {
     let Found::Character(c) = character_at(text, at) else {
-        return Part::Wrong;
+        return 0;
     };
     if n < kept.len() {
         kept[n] = c;
@@ -172,29 +166,25 @@ pub fn read(text: &[u8], at: usize) -> Spelled
     requires { ⌜ at ≤ length (now text) ⌝ }
     ensures { λ r. ⌜ r ≡ spelledOf (charactersIn (drop at (now (text .entry)))) ⌝ }
 {
-    let classes = class_table();
     let mut characters = [0u8; 20];
-    match plain_run(text, at, 0, &mut characters, &classes) {
-        Part::Characters(count) => Spelled {
-            right: true,
+    let classes = class_table();
+    let count = plain_run(text, at, 0, &mut characters, &classes);
+    if count == 0 {
+        return Spelled {
             count,
-            characters,
-        },
-        Part::Wrong => Spelled {
-            right: false,
-            count: 0,
             characters: [0u8; 20],
-        },
+        };
     }
+    Spelled { count, characters }
 }
 
 // Writes the text of one character from index `at` on, and returns the index after it.
-fn put(out: &mut [u8], at: usize, c: u8, classes: &[u8]) -> usize
-    requires { ⌜ (at + 3 ≤ length (now out)) × (now classes ≡ classTable) ⌝ }
+fn put(out: &mut [u8], at: usize, c: u8, classes: &[u8; 256]) -> usize
+    requires { ⌜ (at + 3 ≤ length (now out)) × ClassTable (now classes) ⌝ }
     ensures { λ r. ⌜ r ≡ at + length (spelling (plain c) c) ⌝ }
     ensures { λ _. ⌜ now (out .exit) ≡ splice (now (out .entry)) at (spelling (plain c) c) ⌝ }
 {
-    if class(classes, c) == 1 {
+    if class(c, classes) == 1 {
         out[at] = c;
         return at + 1;
     }
@@ -225,6 +215,9 @@ pub fn count(groups: [u8; 20], k: usize) -> usize
     requires { ⌜ k ≤ 20 ⌝ }
     ensures { λ r. ⌜ r ≡ countOf (stringIn (take k groups)) ⌝ }
 {
+    if k == 0 {
+        return 0;
+    }
     let classes = class_table();
     let mut n = 0;
     let mut i = 0;
@@ -234,7 +227,7 @@ pub fn count(groups: [u8; 20], k: usize) -> usize
             if n < i {
                 return 0;
             }
-            if class(&classes, g) == 0 {
+            if class(g, &classes) == 0 {
                 return 0;
             }
             n = i + 1;

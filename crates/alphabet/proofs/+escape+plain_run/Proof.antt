@@ -11,7 +11,7 @@ use borrow.Fn.PlainCycle.{Measures, is, falls, and}
 use lib.ListN.{length, drop, length-set}
 use Rattle.rules.specs.Bytes.{percent}
 use Rattle.rules.specs.TextNumbers.{put, charactersIn}
-use Rattle.alphabet.specs.Readers.{partOf, Kept}
+use Rattle.alphabet.specs.Readers.{counted, Kept}
 use Rattle.alphabet.proofs.Classes.{plain-class, other-class}
 use Rattle.alphabet.proofs.Steps.{at-plain, at-percent, at-other, at-end, at-escape, escape-within, no-escape, count-end, count-more}
 use Rattle.alphabet.proofs.Kept.{keep-more, keep-full}
@@ -71,32 +71,32 @@ plain-run-calls t = (
 escape-returns : (t : ℕ) → escape-lts.Need-returns (escape-calls t) (escape-at t) escape.Post
 escape-returns t c =
     let called = c .before .before in
-    let a = called .before .before .before .before .args in
+    let a = called .before .before .before .args in
     rw (no-escape (a .text .now) (a .at) _ (called .character-at .ensures) (c .enum-told .given .1)) (refl, tt)
 
 -- an escape: the text goes on behind its two digits
 module _ (t : ℕ) (c : escape-lts.After-c (escape-calls t) (escape-at t) escape.Post) where
-  within : let a = c .before .before .before .before .before .before .args in a .at + 2 ≤ length (a .text .now)
+  within : let a = c .before .before .before .before .before .args in a .at + 2 ≤ length (a .text .now)
   within =
-      let a = c .before .before .before .before .before .before .args in
+      let a = c .before .before .before .before .before .args in
       escape-within (a .text .now) (a .at) _ (c .before .before .character-at .ensures) _ (search needs) (c .c .given .1)
 
-  goes-on : let a = c .before .before .before .before .before .before .args in
+  goes-on : let a = c .before .before .before .before .before .args in
       charactersIn (percent ∷ drop (a .at) (a .text .now)) ≡ put (some (c .c .given .0 .0)) (charactersIn (drop (a .at + 2) (a .text .now)))
   goes-on =
-      let a = c .before .before .before .before .before .before .args in
+      let a = c .before .before .before .before .before .args in
       at-escape (a .text .now) (a .at) _ (c .before .before .character-at .ensures) _ (c .c .given .1)
 
 escape-plain-run-requires : (t : ℕ) → escape-lts.Need-plain-run-requires (escape-calls t) (escape-at t) escape.Post
 escape-plain-run-requires t c κs =
     let w = within t (c .before .before .before) in
-    (omega (arith, w), (omega (arith, w), omega arith, search needs))
+    (omega (arith, w), (w, search needs, search needs))
 
 escape-returns-2 : (t : ℕ) → escape-lts.Need-returns-2 (escape-calls t) (escape-at t) escape.Post
 escape-returns-2 t c =
     let run = c .before .before .plain-run in
     let found = c .before .before .before .before .before .before in
-    let a = found .before .before .before .before .before .before .args in
+    let a = found .before .before .before .before .before .args in
     let o = charactersIn (drop (a .at + 2) (a .text .now)) in
     let e = goes-on t found in
     (run .ensures .0 ∙ count-more (a .n) _ o _ e, keep-more (a .n) _ _ _ _ o _ e refl (run .ensures .1))
@@ -107,7 +107,7 @@ escape-rest-requires t c κs = (within t (c .before .before), search needs, sear
 escape-returns-3 : (t : ℕ) → escape-lts.Need-returns-3 (escape-calls t) (escape-at t) escape.Post
 escape-returns-3 t c =
     let found = c .before .before .before in
-    let a = found .before .before .before .before .before .before .args in
+    let a = found .before .before .before .before .before .args in
     let o = charactersIn (drop (a .at + 2) (a .text .now)) in
     let p = charactersIn (percent ∷ drop (a .at) (a .text .now)) in
     (c .rest .ensures ∙ count-more (a .n) _ o p (goes-on t found), keep-full (a .n) (a .kept .now) p (c .before .if1 .left))
@@ -115,7 +115,7 @@ escape-returns-3 t c =
 abbrev plain-run-Inv-loop : plain-run-lts.InvT-loop
 plain-run-Inv-loop text at n kept₀ classes i₀ m₀ kept i m =
     (at ≤ i) × (i ≤ length text) × (m ≤ i) × (length kept ≡ length kept₀)
-    × (partOf m (charactersIn (drop i text)) ≡ partOf n (charactersIn (drop at text)))
+    × (counted m (charactersIn (drop i text)) ≡ counted n (charactersIn (drop at text)))
     × ((z : List ℕ) → Kept (charactersIn (drop i text)) m kept z → Kept (charactersIn (drop at text)) n kept₀ z)
 
 abbrev plain-run-μ-loop : plain-run-lts.MeasureT-loop
@@ -127,7 +127,7 @@ plain-run-loop-again t c =
     let test = kept .before .before in
     let turn = test .before .before .before in
     let v = turn .before .loop in
-    let x = turn .before .before .before .before .before .args .text .now in
+    let x = turn .before .before .before .before .args .text .now in
     let o = charactersIn (drop (v .i + 1) x) in
     let e = at-plain x (v .i) (turn .loop-test .taken) (plain-class _ (sym (test .before .class .ensures) ∙ test .if1 .taken)) in (
       search needs,
@@ -145,7 +145,7 @@ plain-run-returns t c =
     let test = c .before .before .before .before in
     let turn = test .before .before .before .before in
     let v = turn .before .loop in
-    let x = turn .before .before .before .before .before .args .text .now in
+    let x = turn .before .before .before .before .args .text .now in
     let e = at-percent x (v .i) (turn .loop-test .taken) (test .if2 .taken) in
     (reader .ensures .0 ∙ rw (← e) (v .inv .4), v .inv .5 _ (rw e (reader .ensures .1)))
 
@@ -154,14 +154,14 @@ plain-run-returns-2 t c =
     let classed = c .before .before in
     let turn = classed .before .before in
     let v = turn .before .loop in
-    let x = turn .before .before .before .before .before .args .text .now in
+    let x = turn .before .before .before .before .args .text .now in
     let e = at-other x (v .i) (turn .loop-test .taken) (other-class _ λ q. c .before .if1 .left (classed .class .ensures ∙ q)) (c .if2 .left) in
     (rw e at (v .inv .4), v .inv .5 _ (rw e tt))
 
 plain-run-returns-3 : (t : ℕ) → plain-run-lts.Need-returns-3 (plain-run-calls t) (plain-run-at t) plain-run.Post plain-run-Inv-loop plain-run-μ-loop
 plain-run-returns-3 t c =
     let v = c .before .loop in
-    let x = c .before .before .before .before .before .args .text .now in
+    let x = c .before .before .before .before .args .text .now in
     (count-end x (v .i) (v .m) (c .loop-test .left) ∙ v .inv .4, v .inv .5 _ (rw (at-end x (v .i) (c .loop-test .left)) refl))
 
 pub +escape+plain-run-spec : {M : Type 1} → statement M
@@ -196,7 +196,7 @@ pub +escape+plain-run-spec : {M : Type 1} → statement M
     (λ c. search needs)
     (plain-run-loop-again t)
     (λ c. search needs)
-    (λ c κs. search needs)
+    (λ c κs. (omega arith, (search needs, search needs, search needs)))
     (λ c. search needs)
     (plain-run-returns t)
     (λ c. search needs)

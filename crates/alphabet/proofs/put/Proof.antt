@@ -11,13 +11,13 @@ use Rattle.alphabet.proofs.put.Tie as tie
 
 itself : tie.Need-returns
 itself c =
-    let a = c .before .before .before .before .args in
+    let a = c .before .before .before .args in
     rw (plain-class (a .c) (sym (c .before .class .ensures) ∙ c .if1 .taken)) (refl, sym (splice-one (a .out .now) (a .at) (a .c) (search needs)))
 
 escape : tie.Need-returns-2
 escape c =
     let classed = c .before .before .before in
-    let a = classed .before .before .before .args in
+    let a = classed .before .before .args in
     rw (other-class (a .c) (λ e. c .before .before .if1 .left (classed .class .ensures ∙ e)), c .before .hex .ensures, c .hex2 .ensures)
     (refl, three (a .out .now) (a .at) _ _ _ (search needs))
 

@@ -4,14 +4,14 @@ use Prim.Native.Nat.{_-_, _≤_}
 use borrow.Author.Needs.{needs}
 use lib.ListN.{length, drop}
 use Rattle.rules.specs.TextNumbers.{charactersIn}
-use Rattle.alphabet.specs.Readers.{partOf}
+use Rattle.alphabet.specs.Readers.{counted}
 use Rattle.alphabet.proofs.Steps.{count-end, width-counted}
 use Rattle.alphabet.proofs.rest.Statement.{statement}
 use Rattle.alphabet.proofs.rest.Tie as tie
 
 abbrev Inv-loop : tie.InvT-loop
 Inv-loop text at n classes i₀ m₀ i m =
-    (i ≤ length text) × (m ≤ i) × (partOf m (charactersIn (drop i text)) ≡ partOf n (charactersIn (drop at text)))
+    (i ≤ length text) × (m ≤ i) × (counted m (charactersIn (drop i text)) ≡ counted n (charactersIn (drop at text)))
 
 abbrev μ-loop : tie.MeasureT-loop
 μ-loop text at n classes i₀ m₀ i m = length text - i
@@ -25,13 +25,13 @@ loop-again : tie.Need-loop-again Inv-loop μ-loop
 loop-again c =
     let one = c .before .width in
     let v = c .before .before .before .loop in
-    let text = c .before .before .before .before .before .before .args .text .now in
+    let text = c .before .before .before .before .before .args .text .now in
     (search needs, search needs, width-counted text (v .i) (one .result) (v .m) (one .ensures) (c .if1 .left) ∙ v .inv .2)
 
 end : tie.Need-returns-2 Inv-loop μ-loop
 end c =
     let v = c .before .loop in
-    count-end (c .before .before .before .before .args .text .now) (v .i) (v .m) (c .loop-test .left) ∙ v .inv .2
+    count-end (c .before .before .before .args .text .now) (v .i) (v .m) (c .loop-test .left) ∙ v .inv .2
 
 pub rest-spec : {M : Type 1} → statement M
 rest-spec =

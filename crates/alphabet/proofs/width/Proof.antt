@@ -11,27 +11,27 @@ use Rattle.alphabet.proofs.width.Tie as tie
 
 itself : tie.Need-returns
 itself c =
-    let a = c .before .before .before .before .before .args in
+    let a = c .before .before .before .before .args in
     let x = a .text .now in
     wide x (a .at) 1 _ (lit< tt) (search needs) (at-plain x (a .at) (search needs) (plain-class _ (sym (c .before .class .ensures) ∙ c .if1 .taken)))
 
 other : tie.Need-returns-2
 other c =
-    let a = c .before .before .before .before .before .before .args in
+    let a = c .before .before .before .before .before .args in
     let x = a .text .now in
     no-width x (a .at) (search needs) (at-other x (a .at) (search needs) (other-class _ λ e. c .before .if1 .left (c .before .before .class .ensures ∙ e)) (c .if2 .taken))
 
 no-digits : tie.Need-returns-3
 no-digits c =
     let called = c .before .before in
-    let a = called .before .before .before .before .before .before .before .args in
+    let a = called .before .before .before .before .before .before .args in
     let x = a .text .now in
     no-width x (a .at) (search needs) (at-percent x (a .at) (search needs) (called .before .if2 .left) ∙ no-escape x (a .at + 1) _ (called .character-at .ensures) (c .enum-told2 .given .1))
 
 escaped : tie.Need-returns-4
 escaped c =
     let called = c .before .before in
-    let a = called .before .before .before .before .before .before .before .args in
+    let a = called .before .before .before .before .before .before .args in
     let x = a .text .now in
     let p = a .at + 1 in
     let d = c .enum-told .given .0 .0 in
