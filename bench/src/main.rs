@@ -8,8 +8,8 @@ use codecs::{bank_of, Pair, BANK_TO_TEXT, RAW_LINE, TEXT_TO_BANK};
 use inputs::{hostile, texts, Seeded, HOSTILE, SCHEMES};
 use timing::{measure, Case, Times};
 
-/// How many tags of a scheme are gone through.
-const TAGS: usize = 56;
+/// How many tags of a scheme are gone through: too many for the processor to learn their branches.
+const TAGS: usize = 2100;
 
 const LENGTHS: [usize; 5] = [100, 1_000, 10_000, 100_000, 1_000_000];
 
