@@ -1,8 +1,7 @@
 -- The parts of a scheme, from what is read of its head.
-use Prim.Native.Nat.{ℕ, _≤_}
+use Prim.Native.Nat.{ℕ}
 use mathlib.Core.Path.{_≡_, refl, sym}
 use mathlib.Core.List.{List, _∷_}
-use native.Mathlib.Omega.{arith}
 use lib.ListN.{length}
 use Rattle.numeral.specs.Numeral.{value}
 use Rattle.rules.specs.declared.Scheme.{Scheme}
@@ -11,25 +10,12 @@ use Rattle.rules.specs.Bytes.{behind, dot}
 use Rattle.rules.specs.Schemes.{prefix, integer, Body, _then_, _zeros_, E, F, integers, about}
 use Rattle.rules.specs.Grammar.{layout}
 use Rattle.rules.specs.TextNumbers.{partIn, partsIn}
-use Rattle.scheme.specs.declared.lines.Parts.{Parts}
-use Rattle.scheme.specs.declared.lines.Parts.the-variants.{Integer, String, Zeros, Asset, Integers}
-use Rattle.scheme.specs.Lines.{Tabled, Narrow}
 use Rattle.scheme.specs.Records.{recordOf, refusal}
 use Rattle.text.specs.declared.reading.Head.{Head}
-use Rattle.text.specs.Reading.{restLayout, restOf, Begins, readAs}
+use Rattle.text.specs.Reading.{restLayout, restOf, readAs}
 
 abbrev pub head : Scheme → ℕ → ℕ → ℕ → Head
 head s f p d = record { scheme = s; filter = f; prefix = p; digits = d }
-
-pub begins-few : (p : Parts) (a : ℕ) → Begins p a → Narrow p → a ≤ 62
-begins-few (Integer t n) a h k = let x : _≡_ {A = ℕ} 0 1 = cc (h .2) in absurd (omega arith)
-begins-few (String t n) a h k = let x : _≡_ {A = ℕ} 0 1 = cc (h .2) in absurd (omega arith)
-begins-few (Zeros t n) a h k = let x : _≡_ {A = ℕ} 0 1 = cc (h .2) in absurd (omega arith)
-begins-few Asset a h k = let x : _≡_ {A = ℕ} 0 1 = cc (h .2) in absurd (omega arith)
-begins-few (Integers m b c) a h k = let x : m ≡ a = cc (h .2) in omega (arith, k .0)
-
-pub not-tabled : (p : Parts) (a : ℕ) → Begins p a → ¬ (Tabled p)
-not-tabled p a h k = let x : _≡_ {A = ℕ} 0 1 = cc (h .2, k .1) in absurd (omega arith)
 
 -- the parts behind a head, as a tag's
 abbrev behindTwo : List ℕ → List ℕ → Answer (List (List ℕ)) → Answer (List (List ℕ))

@@ -12,7 +12,7 @@ use Rattle.rules.specs.Schemes.{Parts as RulesParts}
 use Rattle.rules.specs.Grammar.{Layout, part, last, bodyLayout}
 use Rattle.scheme.specs.declared.record.Reading.{Reading}
 use Rattle.scheme.specs.declared.lines.Parts.{Parts}
-use Rattle.scheme.specs.Lines.{partsOf, partsFor, Tabled}
+use Rattle.scheme.specs.Lines.{partsFor, Tabled}
 use Rattle.scheme.specs.Records.{partAt, valueAt, lastNumber, lastCharacters, padded, refusal, readingOf}
 use Rattle.text.specs.declared.reading.Head.{Head}
 
@@ -70,10 +70,6 @@ restOf h (integers a b c) = lastOf h (integer c)
 -- a scheme's parts in code
 abbrev pub AreParts : Scheme → Parts → Type 0
 AreParts s p = p ≡ partsFor (about s .parts)
-
--- three integers, the first of a bits
-abbrev pub Begins : Parts → ℕ → Type 0
-Begins p a = (b : ℕ) × (c : ℕ) × (partsOf p ≡ integers a b c)
 
 -- where there is a partition table, the digits of the company prefix pick a row of it
 abbrev pub Picked : Parts → ℕ → Type 0

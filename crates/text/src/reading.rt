@@ -24,7 +24,7 @@ ghost use Rattle.rules.specs.TextNumbers.{after, partsIn, tagOfText};
 ghost use Rattle.scheme.specs.Lines.{partsOf, Tabled, Narrow};
 ghost use Rattle.scheme.specs.Records.{readingOf};
 ghost use Rattle.text.specs.Parts.{formOf, Short};
-ghost use Rattle.text.specs.Reading.{begun, taggedWith, lastOf, referred, aloneOf, assetOf, restOf, restLayout, Picked, Begins, AreParts, readAs};
+ghost use Rattle.text.specs.Reading.{begun, taggedWith, lastOf, referred, aloneOf, assetOf, restOf, restLayout, Picked, AreParts, readAs};
 
 // Whether a text begins with `urn:epc:tag:`.
 fn begins(text: &[u8]) -> bool
@@ -154,12 +154,12 @@ fn body(text: &[u8], at: usize, head: Head, p: Parts) -> Reading
     }
 }
 
-// gid-96: an integer of so many bits, and what follows it.
-fn general(text: &[u8], at: usize, s: Scheme, p: Parts, bits: usize) -> Reading
-    requires { ⌜ (at ≤ length (now text)) × AreParts s p × Begins p bits ⌝ }
+// gid-96: three integers. They are not left to `body`, which so has one caller and is compiled into it.
+fn general(text: &[u8], at: usize, s: Scheme, a: usize, b: usize, c: usize) -> Reading
+    requires { ⌜ (at ≤ length (now text)) × AreParts s (Parts.Integers a b c) ⌝ }
     ensures { λ r. ⌜ r ≡ readAs s (partsIn (layout s) (drop at (now (text .entry)))) ⌝ }
 {
-    let Part::Is(prefix, _, next) = part_at(text, at, Form::Integer(bits)) else {
+    let Part::Is(prefix, _, next) = part_at(text, at, Form::Integer(a)) else {
         return refused(5);
     };
     let head = Head {
@@ -168,7 +168,7 @@ fn general(text: &[u8], at: usize, s: Scheme, p: Parts, bits: usize) -> Reading
         prefix,
         digits: 0,
     };
-    body(text, next, head, p)
+    with_integer(text, next, head, Form::Integer(b), c)
 }
 
 // The other schemes: the filter, the company prefix, and what follows it.
@@ -198,7 +198,7 @@ fn parts_at(text: &[u8], at: usize, s: Scheme) -> Reading
 {
     let p = about(s).parts;
     match p {
-        Parts::Integers(bits, _, _) => general(text, at, s, p, bits),
+        Parts::Integers(a, b, c) => general(text, at, s, a, b, c),
         _ => partitioned(text, at, s, p),
     }
 }

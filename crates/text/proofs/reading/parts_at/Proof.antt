@@ -1,5 +1,5 @@
 -- `parts_at` meets its contract: three integers, or a partition table.
-use mathlib.Core.Path.{refl, sym, ap, _∙_}
+use mathlib.Core.Path.{sym, ap, _∙_}
 use borrow.Author.Needs.{needs}
 use Rattle.scheme.proofs.Widths.{tabled}
 use Rattle.text.proofs.reading.parts_at.Statement.{statement}
@@ -9,7 +9,7 @@ integers : tie.Need-general-requires
 integers c κs =
     let p = c .before in
     let a = p .before .before in
-    (a .before .before .pre, sym (p .p .given .1) ∙ ap (λ l. l .parts) (a .about .ensures), (_, _, refl))
+    (a .before .before .pre, sym (p .p .given .1) ∙ ap (λ l. l .parts) (a .about .ensures))
 
 table : tie.Need-partitioned-requires
 table c κs =
