@@ -3,3 +3,4 @@ pub mod Texts
 pub mod Runs
 pub mod Parts
 pub mod Copies
+pub mod Pairs

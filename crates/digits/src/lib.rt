@@ -1,6 +1,6 @@
 // Pieces of texts: bytes, numbers in decimal and bytes in hexadecimal written, and runs of decimal digits read.
 ghost use mathlib.Core.Path.{_≡_};
-ghost use Prim.Native.Nat.{_+_, _*_, _≤_, _<_};
+ghost use Prim.Native.Nat.{_+_, _*_, _/_, _%_, _≤_, _<_};
 ghost use lib.ListN.{length, drop};
 ghost use Rattle.numeral.specs.Numeral.{value, numeral, size, shortest, splice};
 ghost use Rattle.rules.specs.Bytes.{all, digitsText, hexDigit, hexText};
@@ -57,6 +57,17 @@ pub fn hex(d: u8) -> u8
     if d < 10 { b'0' + d } else { b'A' + (d - 10) }
 }
 
+// The two digits of a byte as one number, the first one in its low byte: both are worked out at once, with no branch. A letter
+// stands seven places further on than a digit, and m says of which half that is so.
+fn hex_pair(x: u8) -> u16
+    ensures { λ r. ⌜ r ≡ hexDigit (x / 16) + 256 * hexDigit (x % 16) ⌝ }
+{
+    let y = x as u16;
+    let t = y / 16 + (y % 16) * 256;
+    let m = ((t + 0x606) / 16) & 0x101;
+    t + 0x3030 + m * 7
+}
+
 // Writes all of src from index `at` on, two upper-case digits a byte.
 pub fn put_hex(out: &mut [u8], at: usize, src: &[u8])
     requires { ⌜ at + 2 * length (now src) ≤ length (now out) ⌝ }
@@ -64,9 +75,9 @@ pub fn put_hex(out: &mut [u8], at: usize, src: &[u8])
 {
     let mut p = at;
     for i in 0..src.len() {
-        let x = src[i];
-        out[p] = hex(x / 16);
-        out[p + 1] = hex(x % 16);
+        let pair = hex_pair(src[i]);
+        out[p] = (pair % 256) as u8;
+        out[p + 1] = (pair / 256) as u8;
         p += 2;
     }
 }

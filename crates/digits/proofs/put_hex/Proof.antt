@@ -1,16 +1,17 @@
 -- `digits::put_hex` meets its contract. The invariant: the i bytes passed are written, up to index p.
 use native.Mathlib.Omega.{arith}
 use mathlib.Core.Path.{_≡_, sym}
-use Prim.Native.Nat.{_+_, _-_, _*_, _≤_}
+use Prim.Native.Nat.{_+_, _-_, _*_, _/_, _%_, _≤_, _<_}
 use native.Mathlib.Numerals.{add-one}
-use lib.ListN.{length, take, length-set}
+use lib.ListN.{length, take, getD, length-set}
 use lib.Seq.{take-all}
 use denote.Ref.{now}
 use borrow.Author.Needs.{needs}
 use Rattle.numeral.specs.Numeral.{splice}
 use Rattle.numeral.proofs.Splices.{splice-nil}
-use Rattle.rules.specs.Bytes.{hexText}
+use Rattle.rules.specs.Bytes.{hexDigit, hexText}
 use Rattle.digits.proofs.Texts.{put-byte}
+use Rattle.digits.proofs.Pairs.{digit-byte, low-byte, high-byte}
 use Rattle.digits.proofs.put_hex.Statement.{statement}
 use Rattle.digits.proofs.put_hex.Tie as tie
 
@@ -26,21 +27,20 @@ loop-holds c =
     let s = c .before .before in
     (search needs, omega arith, search needs, sym (splice-nil (now (s .args .out)) (s .args .at)))
 
-hex-requires : tie.Need-hex-requires Inv-loop μ-loop
-hex-requires c κs = omega (arith, c .shared-slice-known2 .given (c .before .before .loop .i))
-
 slice-write-out-2 : tie.Need-slice-write-out-2 Inv-loop μ-loop
 slice-write-out-2 c = simp length-set (omega arith)
 
 loop-again : tie.Need-loop-again Inv-loop μ-loop
 loop-again c =
-    let a = c .before .before .before .before in
-    let s = a .before .before .before in (
+    let a = c .before .before .before in
+    let s = a .before .before .before in
+    let x = getD (now (s .args .src)) (a .loop .i) 0 in
+    let small : hexDigit (x / 16) < 256 = digit-byte (x / 16) (omega (arith, c .before .shared-slice-known2 .given (a .loop .i))) in (
       search needs,
       omega arith,
       simp length-set (omega arith),
-      rw (c .before .hex .ensures, c .hex2 .ensures, a .loop .inv .3, add-one (a .loop .i))
-          (put-byte (now (s .args .out)) (now (s .args .src)) (s .args .at) (a .loop .i) (a .loop .p) (c .before .before .before .loop-test .taken) (a .loop .inv .1) (s .pre)),
+      rw (c .hex-pair .ensures, low-byte (hexDigit (x / 16)) (hexDigit (x % 16)) small, high-byte (hexDigit (x / 16)) (hexDigit (x % 16)) small, a .loop .inv .3, add-one (a .loop .i))
+          (put-byte (now (s .args .out)) (now (s .args .src)) (s .args .at) (a .loop .i) (a .loop .p) (c .before .before .loop-test .taken) (a .loop .inv .1) (s .pre)),
     )
 
 returns : tie.Need-returns Inv-loop μ-loop
@@ -57,9 +57,10 @@ put-hex-spec =
     μ-loop
     loop-holds
     (λ c. search needs)
-    hex-requires
-    (λ c. search needs)
     (λ c κs. search needs)
+    (λ c. search needs)
+    (λ c. search needs)
+    (λ c. search needs)
     (λ c. search needs)
     slice-write-out-2
     (λ c. search needs)
