@@ -1,6 +1,6 @@
 -- An answer in numbers says what the codec's says: number by number, and the line on the screen by the text that it is a part of.
 use Prim.Native.Nat.{ℕ, _<_}
-use mathlib.Core.Path.{_≡_, refl, ap}
+use mathlib.Core.Path.{_≡_, refl, sym, ap, _∙_}
 use mathlib.Core.Bool.{Bool, true, false, _&&_, cond}
 use mathlib.Core.List.{List, []}
 use native.Mathlib.Omega.{arith}
@@ -13,6 +13,7 @@ use Rattle.rules.specs.Screen.{screen}
 use Rattle.codec.specs.Answers.{answered, numberOf, lengthOf}
 use Rattle.codec.specs.declared.Answer.{Answer}
 use Rattle.capi.specs.declared.Reply.{Reply}
+use Rattle.capi.specs.declared.Line.{Line}
 use Rattle.capi.specs.Replies.{replied, Shows}
 
 pub same : (a : Answer) (out : List ℕ) (c : Call) → answered a out ≡ c → (r : Reply) → r .number ≡ numberOf a → r .length ≡ lengthOf a → replied r out ≡ c
@@ -47,3 +48,13 @@ module _ (tag raw : List ℕ) (n : ℕ) where
 
     pub of-raw : ¬ (n ≡ 0) → Shows tag raw n (record { text = 1; length = length line })
     of-raw z = record { text = simp (ne-eqb n 0 z); whole = ap length is; shown = rw is (start-of-raw z) }
+
+-- NO SECOND ANSWER
+
+pub one-reply : (r s : Reply) (o p : List ℕ) (c : Call) → replied r o ≡ c → replied s p ≡ c → (r ≡ s) × (o ≡ p)
+one-reply r s o p c e f =
+    let g = e ∙ sym f in
+    (ap (λ x. record { number = x .number; length = x .written }) g, ap (λ x. x .output) g)
+
+pub one-line : (tag raw : List ℕ) (n : ℕ) (r s : Line) → Shows tag raw n r → Shows tag raw n s → r ≡ s
+one-line tag raw n r s x y = let t = x .text ∙ sym (y .text) in let l = x .whole ∙ sym (y .whole) in rw (t, l)

@@ -2,3 +2,4 @@
 pub mod Ends
 pub mod RawAnswers
 pub mod TurnedBack
+pub mod OneAnswer

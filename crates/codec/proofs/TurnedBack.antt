@@ -6,9 +6,8 @@ use native.Mathlib.Omega.{arith}
 use lib.ListN.{length, take, drop, length-append}
 use lib.Seq.{take-at}
 use Rattle.numeral.specs.Numeral.{Digits}
-use Rattle.numeral.proofs.Spreads.{length-gather}
 use Rattle.rules.specs.Answers.{Answer, refused, taken, _>>=_}
-use Rattle.rules.specs.Grammar.{Tag, Fits, layout, start, textOf}
+use Rattle.rules.specs.Grammar.{Tag, Fits, layout, textOf}
 use Rattle.rules.specs.Coding.{TagBank, bankOf, within}
 use Rattle.rules.specs.Calls.{call, line, lent, bankRoom, textRoom, textAnswer, bankAnswer, textToBank, bankToText}
 use Rattle.rules.proofs.Again.{line-is}
@@ -16,6 +15,7 @@ use Rattle.rules.proofs.TextReads
 use Rattle.rules.proofs.Banks
 use Rattle.rules.proofs.OneAnswer.{one-answer-of-text-to-bank, one-answer-of-bank-to-text}
 use Rattle.codec.specs.Answers.{answered}
+use Rattle.codec.proofs.OneAnswer.{shown-full, written-full}
 use Rattle.codec.specs.Ties.{writtenAgain, shownAgain}
 use Rattle.codec.specs.declared.Answer.the-variants.{Written, Refused}
 
@@ -52,22 +52,8 @@ module _ (a : Answer (List ℕ)) (before after : List ℕ) where
             let p : 0 < call before a .written = full (ap (λ x. call before x .number) q) in
             absurd (omega (arith, p, ap (λ c. c .written) e))
 
-text-full : (τ : Tag) → 0 < length (textOf τ)
-unfolding textOf start
-text-full τ = omega arith
-
-bank-full : (τ : Tag) → 0 < length (bankOf τ)
-unfolding bankOf
-bank-full τ = rw length-gather (omega arith)
-
 -- bank to text, then text to bank
 module _ (b text out : List ℕ) (d : Digits 256 b) where
-  shown-full : call text (textAnswer b text) .number ≡ 0 → 0 < call text (textAnswer b text) .written
-  unfolding bankToText
-  shown-full e =
-      let (w, r, n, _) = one-answer-of-bank-to-text b text d (call text (textAnswer b text)) .1 refl .accepted e in
-      rw (n, r .2) (text-full (r .0))
-
   bank-again : (w : List ℕ) → textAnswer b text ≡ taken w → bankAnswer w out ≡ lent bankRoom out (taken (within b))
   unfolding bankToText
   bank-again w e =
@@ -87,23 +73,17 @@ module _ (b text out : List ℕ) (d : Digits 256 b) where
     -- what is shown, written again
     pub shown-again : answered (Written n) after ≡ bankToText b text → textToBank (take n after) out ≡ writtenAgain b text out
     unfolding bankToText textToBank
-    shown-again = then-second (textAnswer b text) text after shown-full (λ t. bankAnswer t out) (lent bankRoom out (taken (within b))) bank-again out n
+    shown-again = then-second (textAnswer b text) text after (shown-full b text d) (λ t. bankAnswer t out) (lent bankRoom out (taken (within b))) bank-again out n
 
     pub not-shown : answered (Refused n) after ≡ bankToText b text → answered (Refused n) out ≡ writtenAgain b text out
     unfolding bankToText
-    not-shown = then-none (textAnswer b text) text after shown-full (λ t. bankAnswer t out) (lent bankRoom out (taken (within b))) bank-again out n
+    not-shown = then-none (textAnswer b text) text after (shown-full b text d) (λ t. bankAnswer t out) (lent bankRoom out (taken (within b))) bank-again out n
 
 bank-of : (w : List ℕ) (τ : Tag) → Fits (layout (τ .scheme)) (τ .parts) → w ≡ bankOf τ → TagBank w τ
 bank-of w τ f e = rw e (Banks.own-bank τ f)
 
 -- text to bank, then bank to text
 module _ (t bank out : List ℕ) where
-  written-full : call bank (bankAnswer t bank) .number ≡ 0 → 0 < call bank (bankAnswer t bank) .written
-  unfolding textToBank
-  written-full e =
-      let (w, r, n, _) = one-answer-of-text-to-bank t bank (call bank (bankAnswer t bank)) .1 refl .accepted e in
-      rw (n, r .2) (bank-full (r .0))
-
   text-again : (w : List ℕ) → bankAnswer t bank ≡ taken w → textAnswer w out ≡ lent textRoom out (taken t)
   unfolding textToBank
   text-again w e =
@@ -123,8 +103,8 @@ module _ (t bank out : List ℕ) where
     -- what is written, shown again
     pub written-again : answered (Written n) after ≡ textToBank t bank → bankToText (take n after) out ≡ shownAgain t bank out
     unfolding bankToText textToBank
-    written-again = then-second (bankAnswer t bank) bank after written-full (λ b. textAnswer b out) (lent textRoom out (taken t)) text-again out n
+    written-again = then-second (bankAnswer t bank) bank after (written-full t bank) (λ b. textAnswer b out) (lent textRoom out (taken t)) text-again out n
 
     pub not-written : answered (Refused n) after ≡ textToBank t bank → answered (Refused n) out ≡ shownAgain t bank out
     unfolding textToBank
-    not-written = then-none (bankAnswer t bank) bank after written-full (λ b. textAnswer b out) (lent textRoom out (taken t)) text-again out n
+    not-written = then-none (bankAnswer t bank) bank after (written-full t bank) (λ b. textAnswer b out) (lent textRoom out (taken t)) text-again out n

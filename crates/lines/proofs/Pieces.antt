@@ -109,6 +109,10 @@ moved-all l l₁ from m n h e i =
     let w : take n d ≡ take m d = take-least d m n (omega arith) in
     record { count = sym (length-take m d ∙ omega arith); output = i ∙ ap (splice l 0) w }
 
+-- no second length and output keep what `Wrote` says
+pub one-writing : (w l : List ℕ) (n m : ℕ) (e f : List ℕ) → Wrote w l n e → Wrote w l m f → (n ≡ m) × (e ≡ f)
+one-writing w l n m e f x y = (x .count ∙ sym (y .count), x .output ∙ sym (y .output))
+
 -- nothing is written
 pub wrote-nothing : (l : List ℕ) → Wrote [] l 0 l
 wrote-nothing l = record { count = refl; output = sym (splice-nil l 0) }

@@ -1,0 +1,67 @@
+-- No second answer keeps a call's contract. Number and length tell the answers apart, because what is accepted is never empty.
+use Prim.Native.Nat.{ℕ, _<_}
+use mathlib.Core.Path.{_≡_, refl, sym, ap, _∙_}
+use mathlib.Core.List.{List}
+use native.Mathlib.Omega.{arith}
+use lib.ListN.{length}
+use Rattle.numeral.specs.Numeral.{Digits}
+use Rattle.numeral.proofs.Spreads.{length-gather}
+use Rattle.rules.specs.Grammar.{Tag, start, textOf}
+use Rattle.rules.specs.Coding.{bankOf}
+use Rattle.rules.specs.Raw.{rawText}
+use Rattle.rules.specs.Calls.{Call, textToBank, bankToText, rawLine}
+use Rattle.rules.proofs.OneAnswer as rules
+use Rattle.codec.specs.Answers.{answered}
+use Rattle.codec.specs.declared.Answer.{Answer}
+use Rattle.codec.specs.declared.Answer.the-variants.{Written, Refused}
+
+text-full : (τ : Tag) → 0 < length (textOf τ)
+unfolding textOf start
+text-full τ = omega arith
+
+bank-full : (τ : Tag) → 0 < length (bankOf τ)
+unfolding bankOf
+bank-full τ = rw length-gather (omega arith)
+
+raw-full : (b : List ℕ) → 0 < length (rawText b)
+unfolding rawText
+raw-full b = omega arith
+
+-- a call that accepts has written something
+abbrev pub Full : Call → Type 0
+Full c = c .number ≡ 0 → 0 < c .written
+
+pub written-full : (t out : List ℕ) → Full (textToBank t out)
+written-full t out e =
+    let (w, r, n, _) = rules.one-answer-of-text-to-bank t out (textToBank t out) .1 refl .accepted e in
+    rw (n, r .2) (bank-full (r .0))
+
+pub shown-full : (b out : List ℕ) → Digits 256 b → Full (bankToText b out)
+shown-full b out d e =
+    let (w, r, n, _) = rules.one-answer-of-bank-to-text b out d (bankToText b out) .1 refl .accepted e in
+    rw (n, r .2) (text-full (r .0))
+
+pub line-full : (b out : List ℕ) → Full (rawLine b out)
+line-full b out e =
+    let (w, r, n, _) = rules.one-answer-of-raw-line b out (rawLine b out) .1 refl .accepted e in
+    rw (n, r) (raw-full b)
+
+module _ (c : Call) (full : Full c) where
+  told-apart : (n m : ℕ) (o p : List ℕ) → answered (Written n) o ≡ c → ¬ (answered (Refused m) p ≡ c)
+  told-apart n m o p e f = omega (arith, full (sym (ap (λ x. x .number) e)), ap (λ x. x .written) f)
+
+  one-answer : (r s : Answer) (o p : List ℕ) → answered r o ≡ c → answered s p ≡ c → (r ≡ s) × (o ≡ p)
+  one-answer (Written n) (Written m) o p e f = (ap Written (ap (λ x. x .written) (e ∙ sym f)), ap (λ x. x .output) (e ∙ sym f))
+  one-answer (Refused n) (Refused m) o p e f = (ap Refused (ap (λ x. x .number) (e ∙ sym f)), ap (λ x. x .output) (e ∙ sym f))
+  one-answer (Written n) (Refused m) o p e f = absurd (told-apart n m o p e f)
+  one-answer (Refused n) (Written m) o p e f = absurd (told-apart m n p o f e)
+
+module _ (r s : Answer) (o p : List ℕ) where
+  pub one-answer-of-text-to-bank : (t out : List ℕ) → answered r o ≡ textToBank t out → answered s p ≡ textToBank t out → (r ≡ s) × (o ≡ p)
+  one-answer-of-text-to-bank t out = one-answer (textToBank t out) (written-full t out) r s o p
+
+  pub one-answer-of-bank-to-text : (b out : List ℕ) → Digits 256 b → answered r o ≡ bankToText b out → answered s p ≡ bankToText b out → (r ≡ s) × (o ≡ p)
+  one-answer-of-bank-to-text b out d = one-answer (bankToText b out) (shown-full b out d) r s o p
+
+  pub one-answer-of-raw-line : (b out : List ℕ) → answered r o ≡ rawLine b out → answered s p ≡ rawLine b out → (r ≡ s) × (o ≡ p)
+  one-answer-of-raw-line b out = one-answer (rawLine b out) (line-full b out) r s o p
