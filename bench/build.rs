@@ -1,7 +1,11 @@
-//! Links the archive of the proved codec that `rt staticlib capi` writes.
+//! Links the archive of the proved codec; `bench/run` says where it is.
+use std::path::PathBuf;
+
 fn main() {
-    let root = std::env::var("CARGO_MANIFEST_DIR").expect("cargo says where the package is");
-    println!("cargo:rustc-link-search=native={root}/../target/staticlib");
+    let archive = PathBuf::from(std::env::var("TAGCODEC").expect("TAGCODEC: the archive (bench/run sets it)"));
+    let folder = archive.parent().expect("the archive's folder");
+    println!("cargo:rustc-link-search=native={}", folder.display());
     println!("cargo:rustc-link-lib=static=capi");
-    println!("cargo:rerun-if-changed=../target/staticlib/libcapi.a");
+    println!("cargo:rerun-if-env-changed=TAGCODEC");
+    println!("cargo:rerun-if-changed={}", archive.display());
 }

@@ -67,7 +67,7 @@ fn print_growth() {
     println!();
 }
 
-/// The folder for the lines, the program of the proved codec (where there is one) and second's.
+/// The folder for the lines, the program of the proved codec and second's.
 fn main() {
     let arguments: Vec<String> = std::env::args().skip(1).collect();
     let [folder, tagline, second] = &arguments[..] else {

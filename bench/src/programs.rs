@@ -56,12 +56,10 @@ pub fn print_lines(folder: &str, tagline: &str, second: &str) {
     let file = folder.join("lines");
     let lines = lines();
     std::fs::write(&file, &lines).expect("a folder to write the lines to");
-    let there = Path::new(tagline).exists();
-    let codecs: Vec<&str> = if there { vec![tagline, second] } else { vec![second] };
-    agree(&codecs, &file, folder);
+    agree(&[tagline, second], &file, folder);
 
-    let programs = [codecs, vec!["cat"]].concat();
-    let mut best = vec![f64::MAX; programs.len()];
+    let programs = [tagline, second, "cat"];
+    let mut best = [f64::MAX; 3];
     for _ in 0..ROUNDS {
         for (program, best) in programs.iter().zip(&mut best) {
             *best = best.min(run(program, &file, Stdio::null()));
@@ -69,9 +67,6 @@ pub fn print_lines(folder: &str, tagline: &str, second: &str) {
     }
     println!("| {LINES} lines, {} bytes, through | lines a second | MB a second |", lines.len());
     println!("|---|--:|--:|");
-    if !there {
-        println!("| tagline: not run, there is no ./tagline | | |");
-    }
     for (program, seconds) in programs.iter().zip(best) {
         let name = Path::new(program).file_name().expect("a program").to_string_lossy();
         println!("| {name} | {:.0} | {:.0} |", LINES as f64 / seconds, lines.len() as f64 / 1e6 / seconds);
