@@ -8,3 +8,4 @@ pub mod Screens
 pub mod Sizes
 pub mod Splits
 pub mod Passes
+pub mod Sessions

@@ -58,6 +58,11 @@ abbrev pub session : List ℕ → List (List ℕ) → List ℕ
 session rest [] = lastOf rest
 session rest (p ∷ ps) = let input = rest ++ p in outputOf (whole input) ++ session (kept (length (whole input)) input) ps
 
+-- the pieces put together
+abbrev pub joined : List (List ℕ) → List ℕ
+joined [] = []
+joined (p ∷ ps) = p ++ joined ps
+
 -- WRITING
 
 -- w is written from an output's start on, the rest of the output stays, and n is the length of w
