@@ -1,0 +1,79 @@
+/* How much stack a call takes: the lines of standard input, texts and banks in hexadecimal, and texts of a megabyte go through each call
+ * above a stack that is painted beforehand; what is no longer painted was used. Fails where a call takes more than BOUND bytes, or more
+ * on a megabyte than on the lines. */
+#include <pthread.h>
+#include <stdio.h>
+#include <string.h>
+
+#include "tagcodec.h"
+
+enum { STACK = 1 << 18, DEEP = 1 << 14, OWN = 256, PAINT = 0xA5, BOUND = 8192, LONG = 1000000, LINES = 1 << 22 };
+
+typedef tagcodec_reply call(const uint8_t *, size_t, uint8_t *, size_t);
+
+static uint8_t stack[STACK] __attribute__((aligned(4096))), lines[LINES], text[LONG];
+
+/* The bytes that the call used below this function's frame, and the frame, which takes fewer than OWN. */
+static size_t taken(call *volatile function, const uint8_t *input, size_t length) {
+    static uint8_t out[TAGCODEC_TEXT_ROOM];
+    volatile uint8_t here, *painted = stack;
+    size_t top = (size_t)((uintptr_t)&here - (uintptr_t)stack), i;
+    for (i = top - DEEP; i < top - OWN; i++) painted[i] = PAINT;
+    function(input, length, out, sizeof out);
+    for (i = top - DEEP; i < top - OWN && painted[i] == PAINT;) i++;
+    return top - i;
+}
+
+static size_t most(size_t before, call *function, const uint8_t *input, size_t length) {
+    size_t bytes = taken(function, input, length);
+    return bytes > before ? bytes : before;
+}
+
+/* A bank in hexadecimal, in place; any other line is left as it is. */
+static size_t in_bytes(uint8_t *line, size_t length) {
+    for (size_t i = 0; i + 1 < length; i += 2) {
+        unsigned byte;
+        if (sscanf((const char *)line + i, "%2x", &byte) != 1) return length;
+        line[i / 2] = (uint8_t)byte;
+    }
+    return length / 2;
+}
+
+static size_t on_a_megabyte(void) {
+    static const char *const STRING = "urn:epc:tag:sgtin-198:3.0614141.712345.", *const SERIAL = "urn:epc:tag:sgtin-96:3.0614141.712345.";
+    const char *const begun[] = {STRING, STRING, STRING, STRING, STRING, SERIAL}, *const repeated[] = {"%2F", "A", "%", ".", "a%22", "9"};
+    size_t bytes = 0;
+    for (size_t i = 0; i < 6; i++) {
+        size_t at = strlen(begun[i]);
+        memcpy(text, begun[i], at);
+        for (size_t n = 0; at < LONG; n++) text[at++] = (uint8_t)repeated[i][n % strlen(repeated[i])];
+        bytes = most(bytes, tagcodec_text_to_bank, text, LONG);
+    }
+    return bytes;
+}
+
+static void *measure(void *failed) {
+    size_t read = fread(lines, 1, LINES, stdin), bank = 0, shown = 0, raw = 0;
+    for (size_t at = 0, next; at < read; at = next) {
+        const uint8_t *end = memchr(lines + at, '\n', read - at);
+        size_t length = (end ? (size_t)(end - lines) : read) - at;
+        next = at + length + 1;
+        bank = most(bank, tagcodec_text_to_bank, lines + at, length);
+        length = in_bytes(lines + at, length);
+        shown = most(shown, tagcodec_bank_to_text, lines + at, length);
+        raw = most(raw, tagcodec_raw_line, lines + at, length);
+    }
+    size_t hostile = on_a_megabyte();
+    printf("stack: text_to_bank %zu bytes, on a megabyte %zu; bank_to_text %zu; raw_line %zu\n", bank, hostile, shown, raw);
+    *(int *)failed = hostile > bank || bank > BOUND || shown > BOUND || raw > BOUND;
+    return NULL;
+}
+
+int main(void) {
+    int failed = 2;
+    pthread_attr_t attributes;
+    pthread_t thread;
+    if (pthread_attr_init(&attributes) != 0 || pthread_attr_setstack(&attributes, stack, STACK) != 0) return 2;
+    if (pthread_create(&thread, &attributes, measure, &failed) == 0) pthread_join(thread, NULL);
+    return failed;
+}
