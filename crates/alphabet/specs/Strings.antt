@@ -1,9 +1,10 @@
 -- The class of a byte, what a text spells, and how many characters stand in a bank's groups.
-use Prim.Native.Nat.{ℕ, _<_}
+use Prim.Native.Nat.{ℕ, _-_, _/_, _%_, _^_, _<_}
 use mathlib.Core.Path.{_≡_}
-use mathlib.Core.Bool.{cond}
+use mathlib.Core.Bool.{Bool, _&&_, cond}
 use mathlib.Core.List.{List, _++_}
 use mathlib.Core.Option.{Option, none, some}
+use lib.Dec.{eqb, ltb}
 use lib.ListN.{length, take, getD, replicate}
 use Rattle.rules.specs.Answers.{Answer, refused, taken}
 use Rattle.rules.specs.Bytes.{among}
@@ -17,6 +18,10 @@ classOf c = cond (plain c) 1 (cond (among c escaped) 2 0)
 -- an entry for each byte value: its class
 pub record ClassTable (table : List ℕ) : Type 0 where
   pub entry : (c : ℕ) → c < 256 → getD table c 0 ≡ classOf c
+
+-- the bit of a byte, in one of two words of 64
+abbrev pub markedIn : ℕ → ℕ → ℕ → Bool
+markedIn first second c = ltb c 128 && eqb (cond (ltb c 64) first second / 2 ^ (c % 64) % 2) 1
 
 -- the number of characters, and the first twenty of them, zeros behind; 0 and zeros for a wrong form
 abbrev pub spelledOf : Option (List ℕ) → Spelled

@@ -7,10 +7,10 @@ ghost use Prim.Native.Nat.{_+_, _*_, _<_, _≤_};
 ghost use lib.ListN.{length, take, drop, set};
 ghost use Rattle.numeral.specs.Numeral.{splice};
 ghost use Rattle.rules.specs.Bytes.{percent};
-ghost use Rattle.rules.specs.Characters.{plain, spelling, stringText};
+ghost use Rattle.rules.specs.Characters.{character, plain, spelling, stringText};
 ghost use Rattle.rules.specs.TextNumbers.{charactersIn};
 ghost use Rattle.rules.specs.BankNumbers.{stringIn};
-ghost use Rattle.alphabet.specs.Strings.{ClassTable, classOf, spelledOf, countOf};
+ghost use Rattle.alphabet.specs.Strings.{ClassTable, classOf, markedIn, spelledOf, countOf};
 ghost use Rattle.alphabet.specs.Readers.{counted, Kept, escapeIn, foundOf, Width};
 
 // The table, for those who look up more than one byte: a constant is made anew wherever it is named.
@@ -26,6 +26,33 @@ fn class(c: u8, classes: &[u8; 256]) -> u8
     ensures { λ r. ⌜ r ≡ classOf c ⌝ }
 {
     classes[c as usize]
+}
+
+// Whether the bit of a byte is set: in `first` for those below 64, in `second` for the next 64.
+fn marked(c: u8, first: u64, second: u64) -> bool
+    ensures { λ r. ⌜ r ≡ markedIn first second c ⌝ }
+{
+    if 127 < c {
+        return false;
+    }
+    let low = (first >> (c % 64)) % 2;
+    let high = (second >> (c % 64)) % 2;
+    let bit = if c < 64 { low } else { high };
+    bit == 1
+}
+
+// Whether a byte is a character that stands for itself.
+fn is_plain(c: u8) -> bool
+    ensures { λ r. ⌜ r ≡ plain c ⌝ }
+{
+    marked(c, table::PLAIN, table::LETTERS)
+}
+
+// Whether a byte is a character of table A-1.
+fn is_character(c: u8) -> bool
+    ensures { λ r. ⌜ r ≡ character c ⌝ }
+{
+    marked(c, table::CHARACTERS, table::LETTERS)
 }
 
 // What a text spells: the number of its characters, and the first twenty of them, zeros behind; 0 and zeros where its form is
@@ -179,12 +206,12 @@ pub fn read(text: &[u8], at: usize) -> Spelled
 }
 
 // Writes the text of one character from index `at` on, and returns the index after it.
-fn put(out: &mut [u8], at: usize, c: u8, classes: &[u8; 256]) -> usize
-    requires { ⌜ (at + 3 ≤ length (now out)) × ClassTable (now classes) ⌝ }
+fn put(out: &mut [u8], at: usize, c: u8) -> usize
+    requires { ⌜ at + 3 ≤ length (now out) ⌝ }
     ensures { λ r. ⌜ r ≡ at + length (spelling (plain c) c) ⌝ }
     ensures { λ _. ⌜ now (out .exit) ≡ splice (now (out .entry)) at (spelling (plain c) c) ⌝ }
 {
-    if class(c, classes) == 1 {
+    if is_plain(c) {
         out[at] = c;
         return at + 1;
     }
@@ -200,25 +227,20 @@ pub fn write(characters: &[u8], n: usize, out: &mut [u8], at: usize) -> usize
     ensures { λ r. ⌜ r ≡ at + length (stringText (take n (now (characters .entry)))) ⌝ }
     ensures { λ _. ⌜ now (out .exit) ≡ splice (now (out .entry)) at (stringText (take n (now (characters .entry)))) ⌝ }
 {
-    let classes = class_table();
     let mut p = at;
     let mut j = 0;
     while j < n {
-        p = put(out, p, characters[j], &classes);
+        p = put(out, p, characters[j]);
         j += 1;
     }
     p
 }
 
 // The number of characters in the first k groups of a string; 0 where rule 19 refuses them.
-pub fn count(groups: [u8; 20], k: usize) -> usize
-    requires { ⌜ k ≤ 20 ⌝ }
-    ensures { λ r. ⌜ r ≡ countOf (stringIn (take k groups)) ⌝ }
+pub fn count(groups: &[u8], k: usize) -> usize
+    requires { ⌜ k ≤ length (now groups) ⌝ }
+    ensures { λ r. ⌜ r ≡ countOf (stringIn (take k (now (groups .entry)))) ⌝ }
 {
-    if k == 0 {
-        return 0;
-    }
-    let classes = class_table();
     let mut n = 0;
     let mut i = 0;
     while i < k {
@@ -227,7 +249,7 @@ pub fn count(groups: [u8; 20], k: usize) -> usize
             if n < i {
                 return 0;
             }
-            if class(g, &classes) == 0 {
+            if !is_character(g) {
                 return 0;
             }
             n = i + 1;

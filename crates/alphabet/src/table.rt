@@ -258,3 +258,11 @@ pub const CLASS: [u8; 256] = [
     0,
     0,
 ];
+
+// The same as bits, for a single look that is not worth a table: bit c of the first word is that of byte c, bit c of the second that of
+// byte 64 + c.
+pub const PLAIN: u64 = 0x2FFF_7F82_0000_0000;
+
+pub const CHARACTERS: u64 = 0xFFFF_FFE6_0000_0000;
+
+pub const LETTERS: u64 = 0x07FF_FFFE_87FF_FFFE;

@@ -4,7 +4,7 @@ use mathlib.Core.Path.{_≡_, refl, sym, ap, _∙_}
 use mathlib.Core.Logic.{_⊎_}
 use mathlib.Core.List.{List, _++_}
 use native.Mathlib.Omega.{arith}
-use lib.ListN.{length, take, replicate}
+use lib.ListN.{length, take, replicate, length-append}
 use lib.Seq.{take-at}
 use Rattle.rules.specs.Answers.{refused}
 use Rattle.rules.specs.declared.Scheme.{Scheme}
@@ -48,6 +48,11 @@ module _ (b : List ℕ) (s : Scheme) (p : Parts) (k : Company) (g : Begun b s p 
 
     pub groups-lie : 16 + (14 + k .cell .bits + h .cell .bits) + 7 * h .groups ≤ 8 * length b
     groups-lie = omega (arith, start-is, room, g .coded .clean .long)
+
+    pub groups-within : (gs : List ℕ) → gs ≡ groupsAt b (14 + k .cell .bits + h .cell .bits) (h .groups) ++ replicate (20 - h .groups) 0 → h .groups ≤ length gs
+    groups-within gs e =
+        let own : List ℕ = groupsAt b (14 + k .cell .bits + h .cell .bits) (h .groups) in
+        omega (arith, ap length e, length-append own (replicate (20 - h .groups) 0), length-groups b (14 + k .cell .bits + h .cell .bits) (h .groups))
 
     -- x is one more than the reference may be, and y is the reference
     module _ (x y : ℕ) (ex : x ≡ 10 ^ h .cell .digits) (ey : y ≡ codeField b (14 + k .cell .bits) (h .cell .bits)) where

@@ -154,7 +154,7 @@ fn referenced(bank: &[u8], s: Scheme, p: Parts, company: Company) -> Reading
     }
     let end = at + shape.cell.bits;
     let characters = groups(bank, end, shape.groups);
-    let count = alphabet::count(characters, shape.groups);
+    let count = alphabet::count(&characters, shape.groups);
     if count == 0 {
         if shape.groups != 0 {
             return refused(19);

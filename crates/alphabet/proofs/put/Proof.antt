@@ -1,10 +1,9 @@
--- The class of the character says which of its two texts is written.
-use mathlib.Core.Path.{refl, sym, _∙_}
+-- Whether the character stands for itself says which of its two texts is written.
+use mathlib.Core.Path.{refl, sym}
 use native.Mathlib.Omega.{arith}
 use borrow.Author.Needs.{needs}
 use lib.ListN.{length-set}
 use Rattle.numeral.proofs.Splices.{splice-one}
-use Rattle.alphabet.proofs.Classes.{plain-class, other-class}
 use Rattle.alphabet.proofs.Writes.{three}
 use Rattle.alphabet.proofs.put.Statement.{statement}
 use Rattle.alphabet.proofs.put.Tie as tie
@@ -12,14 +11,13 @@ use Rattle.alphabet.proofs.put.Tie as tie
 itself : tie.Need-returns
 itself c =
     let a = c .before .before .before .args in
-    rw (plain-class (a .c) (sym (c .before .class .ensures) ∙ c .if1 .taken)) (refl, sym (splice-one (a .out .now) (a .at) (a .c) (search needs)))
+    rw (← c .before .is-plain .ensures, c .if1 .taken) (refl, sym (splice-one (a .out .now) (a .at) (a .c) (search needs)))
 
 escape : tie.Need-returns-2
 escape c =
-    let classed = c .before .before .before in
-    let a = classed .before .before .args in
-    rw (other-class (a .c) (λ e. c .before .before .if1 .left (classed .class .ensures ∙ e)), c .before .hex .ensures, c .hex2 .ensures)
-    (refl, three (a .out .now) (a .at) _ _ _ (search needs))
+    let asked = c .before .before .before in
+    let a = asked .before .before .args in
+    rw (← asked .is-plain .ensures, c .before .before .if1 .left, c .before .hex .ensures, c .hex2 .ensures) (refl, three (a .out .now) (a .at) _ _ _ (search needs))
 
 pub put-spec : {M : Type 1} → statement M
 put-spec =
