@@ -4,3 +4,4 @@ pub mod Runs
 pub mod Parts
 pub mod Copies
 pub mod Pairs
+pub mod Alls

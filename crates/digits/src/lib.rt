@@ -1,4 +1,5 @@
 // Pieces of texts: bytes, numbers in decimal and bytes in hexadecimal written, and runs of decimal digits read.
+ghost use mathlib.Core.Bool.{cond};
 ghost use mathlib.Core.Path.{_≡_};
 ghost use Prim.Native.Nat.{_+_, _*_, _/_, _%_, _≤_, _<_};
 ghost use lib.ListN.{length, drop};
@@ -118,17 +119,25 @@ pub fn run_at(text: &[u8], at: usize) -> Run
     Run { end: at + n, value }
 }
 
-// Whether all bytes from index `at` on are digits: asked behind a run, so that no byte is looked at twice.
+// 0 for a decimal digit, 1 for any other byte.
+pub fn not_digit(c: u8) -> u8
+    ensures { λ r. ⌜ r ≡ cond (isDigit c) 0 1 ⌝ }
+{
+    if is_digit(c) { 0 } else { 1 }
+}
+
+// Whether all bytes from index `at` on are digits: asked behind a run, so that no byte is looked at twice. The largest answer is taken
+// and no early end, so that the machine looks at many bytes at once.
 pub fn all_digits(text: &[u8], at: usize) -> bool
     requires { ⌜ at ≤ length (now text) ⌝ }
     ensures { λ r. ⌜ r ≡ all isDigit (drop at (now (text .entry))) ⌝ }
 {
-    let mut i = at;
-    while i < text.len() {
-        if !is_digit(text[i]) {
-            return false;
+    let mut wrong: u8 = 0;
+    for i in at..text.len() {
+        let w = not_digit(text[i]);
+        if wrong < w {
+            wrong = w;
         }
-        i += 1;
     }
-    true
+    wrong == 0
 }

@@ -1,53 +1,28 @@
 -- Upper-case hex digits: which bytes they are, what each is worth, and the bytes that they write, two digits each.
-use Prim.Native.Nat.{ℕ, zero, suc, _+_, _-_, _*_, _/_, _%_, _≤_, _<_}
+use Prim.Native.Nat.{ℕ, zero, suc, _+_, _*_, _/_, _%_, _≤_, _<_}
 use mathlib.Core.Path.{_≡_, refl, sym, ap, _∙_}
 use mathlib.Core.List.{List, [], _∷_, _++_}
-use mathlib.Core.Bool.{Bool, true, false, _&&_, not, cond}
+use mathlib.Core.Bool.{Bool, true, _&&_, cond}
 use native.Mathlib.Omega.{arith}
 use lib.Dec.{T, leb, ltb, eqb, eqb→eq, leb→le, ltb→lt}
-use lib.ListN.{length, take, drop, getD, set, drop-of-length-le}
+use lib.ListN.{length, take, drop, getD, set}
 use lib.Seq.{take-at}
-use borrow.Author.Tests.{ne-eqb}
 use Rattle.numeral.specs.Numeral.{splice}
 use Rattle.numeral.proofs.Splices.{splice-snoc, length-splice}
-use Rattle.rules.specs.Bytes.{all, among}
-use Rattle.rules.proofs.Tests.{is-true, is-false, both, all-among, below, below-is}
-use Rattle.digits.proofs.Runs.{drop-next}
+use Rattle.rules.specs.Bytes.{all}
+use Rattle.rules.specs.TextNumbers.{isDigit}
+use Rattle.rules.proofs.Tests.{both, all-among, below-is}
 use Rattle.lines.proofs.Pieces.{splice-front}
-use Rattle.lines.specs.Hex.{hexDigits, isHex, hexValue, bytesIn, isBank}
+use Rattle.lines.specs.Hex.{hexDigits, isHex, isLetter, hexValue, bytesIn, isBank}
 
--- Which bytes are digits.
-between : (test : ℕ → Bool) (a k c : ℕ) → T (below (λ n. test (a + n)) k) → a ≤ c → c < a + k → T (test c)
-between test a k c h l u =
-    let e : a + (c - a) ≡ c = omega arith in
-    rw e at (below-is (λ n. test (a + n)) k h (c - a) (omega arith))
-
-above : (c k : ℕ) (l : List ℕ) → k ≤ c → T (all (λ x. ltb x k) l) → among c l ≡ false
-above c k [] h t = refl
-above c k (x ∷ l) h t =
-    let (a, r) = both (ltb x k) (all (λ x. ltb x k) l) t in
-    rw (ne-eqb c x (λ e. omega (arith, ltb→lt x k a)), above c k l h r)
+-- Which bytes are digits: decimal digits or letters, by one test over the 256 bytes.
+split : ℕ → ℕ → Bool
+split c w = eqb (cond (isDigit c) 0 1 * cond (isLetter c) 0 1) w
 
 module _ (c : ℕ) where
-  pub before-digits : c < 48 → isHex c ≡ false
-  unfolding hexDigits
-  before-digits h = is-false (isHex c) (between (λ n. not (isHex n)) 0 48 c tt (omega arith) (omega arith))
-
-  pub a-digit : 48 ≤ c → c ≤ 57 → isHex c ≡ true
-  unfolding hexDigits
-  a-digit l u = is-true (isHex c) (between isHex 48 10 c tt l (omega arith))
-
-  pub before-letters : 57 < c → c < 65 → isHex c ≡ false
-  unfolding hexDigits
-  before-letters l u = is-false (isHex c) (between (λ n. not (isHex n)) 58 7 c tt l (omega arith))
-
-  pub a-letter : 65 ≤ c → c ≤ 70 → isHex c ≡ true
-  unfolding hexDigits
-  a-letter l u = is-true (isHex c) (between isHex 65 6 c tt l (omega arith))
-
-  pub behind-letters : 70 < c → isHex c ≡ false
-  unfolding hexDigits
-  behind-letters h = above c 71 hexDigits h tt
+  pub digit-or-letter : c < 256 → cond (isDigit c) 0 1 * cond (isLetter c) 0 1 ≡ cond (isHex c) 0 1
+  unfolding hexDigits split
+  digit-or-letter h = eqb→eq _ _ (below-is (λ c. split c (cond (isHex c) 0 1)) 256 tt c h)
 
   -- what a digit is worth
   pub value-is : T (isHex c) → c % 16 + 9 * (c / 64) ≡ hexValue c
@@ -57,35 +32,6 @@ module _ (c : ℕ) where
   pub value-lt : T (isHex c) → hexValue c < 16
   unfolding hexDigits
   value-lt h = ltb→lt (hexValue c) 16 (all-among (λ x. ltb (hexValue x) 16) hexDigits c tt h)
-
--- The largest answer is that some byte is no digit.
-abbrev pub wrongOf : Bool → ℕ
-wrongOf x = cond x 0 1
-
-still : (n : ℕ) (x r : Bool) → wrongOf x ≤ n → eqb n 0 && (x && r) ≡ eqb n 0 && r
-still n true r h = refl
-still n false r h = rw (ne-eqb n 0 (λ e. omega arith))
-
-worse : (n : ℕ) (x r : Bool) → n < wrongOf x → eqb n 0 && (x && r) ≡ eqb (wrongOf x) 0 && r
-worse n true r h = absurd (omega arith)
-worse n false r h = let e : n ≡ 0 = omega arith in rw e
-
-module _ (t : List ℕ) (i n w : ℕ) (h : i < length t) (e : all isHex t ≡ eqb n 0 && all isHex (drop i t)) (is : w ≡ wrongOf (isHex (getD t i 0))) where
-  next : all isHex t ≡ eqb n 0 && (isHex (getD t i 0) && all isHex (drop (i + 1) t))
-  next = e ∙ ap (λ r. eqb n 0 && all isHex r) (drop-next t i h)
-
-  pub passed-still : w ≤ n → all isHex t ≡ eqb n 0 && all isHex (drop (i + 1) t)
-  passed-still l = next ∙ still n (isHex (getD t i 0)) (all isHex (drop (i + 1) t)) (rw is at l)
-
-  pub passed-worse : n < w → all isHex t ≡ eqb w 0 && all isHex (drop (i + 1) t)
-  passed-worse l = rw is (next ∙ worse n (isHex (getD t i 0)) (all isHex (drop (i + 1) t)) (rw is at l))
-
-pub passed-all : (t : List ℕ) (i n : ℕ) → length t ≤ i → eqb n 0 && all isHex (drop i t) ≡ eqb n 0
-passed-all t i n h = rw (drop-of-length-le t h) (go (eqb n 0))
-  where
-    go : (b : Bool) → b && true ≡ b
-    go true = refl
-    go false = refl
 
 -- Two digits to a byte.
 abbrev twice : ℕ → ℕ

@@ -1,5 +1,6 @@
 -- A bank in hex: an even number, at most 128, of upper-case hex digits.
 use Prim.Native.Nat.{ℕ, _+_, _*_, _%_}
+use Prim.Native.Char.{code}
 use mathlib.Core.List.{List, [], _∷_}
 use mathlib.Core.Option.{Option, none, some}
 use mathlib.Core.Bool.{Bool, _&&_, cond}
@@ -12,6 +13,9 @@ hexDigits = bytes "0123456789ABCDEF"
 
 abbrev pub isHex : ℕ → Bool
 isHex c = among c hexDigits
+
+abbrev pub isLetter : ℕ → Bool
+isLetter c = leb (code "A") c && leb c (code "F")
 
 -- a digit's value is how many stand before it
 abbrev pub hexValue : ℕ → ℕ

@@ -6,25 +6,20 @@ ghost use lib.Dec.{T};
 ghost use lib.ListN.{length};
 ghost use Rattle.numeral.specs.Numeral.{splice};
 ghost use Rattle.rules.specs.Bytes.{all};
-ghost use Rattle.lines.specs.Hex.{isHex, hexValue, bytesIn, isBank};
+ghost use Rattle.lines.specs.Hex.{isHex, isLetter, hexValue, bytesIn, isBank};
 
-// 0 for an upper-case hex digit, 1 for any other byte.
+// 0 for one of the letters A to F, 1 for any other byte.
+fn not_letter(c: u8) -> u8
+    ensures { λ r. ⌜ r ≡ cond (isLetter c) 0 1 ⌝ }
+{
+    if b'A' <= c && c <= b'F' { 0 } else { 1 }
+}
+
+// 0 for an upper-case hex digit, 1 for any other byte: a product, which has no branch.
 fn not_hex(c: u8) -> u8
     ensures { λ r. ⌜ r ≡ cond (isHex c) 0 1 ⌝ }
 {
-    if c < b'0' {
-        return 1;
-    }
-    if c <= b'9' {
-        return 0;
-    }
-    if c < b'A' {
-        return 1;
-    }
-    if c <= b'F' {
-        return 0;
-    }
-    1
+    digits::not_digit(c) * not_letter(c)
 }
 
 // Whether all bytes are hex digits. The largest answer is taken and no early end, so that the machine looks at many bytes at once.

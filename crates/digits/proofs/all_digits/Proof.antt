@@ -1,39 +1,44 @@
--- `digits::all_digits` meets its contract. The invariant: what the rest says, the whole says.
+-- `digits::all_digits` meets its contract. The invariant: all are digits exactly if none passed is wrong and the rest are digits.
+use Prim.Native.Nat.{ℕ, _-_, _≤_}
 use mathlib.Core.Path.{_≡_, refl, sym, _∙_}
-use Prim.Native.Nat.{_-_, _≤_}
-use lib.ListN.{length, drop, drop-of-length-le}
-use denote.Ref.{now}
+use mathlib.Core.Logic.{⊎-elim}
+use mathlib.Core.List.{List}
+use mathlib.Core.Bool.{_&&_}
+use native.Mathlib.Omega.{arith}
+use lib.Dec.{eqb}
+use lib.ListN.{length, drop}
 use borrow.Author.Needs.{needs}
-use borrow.Author.Tests.{not-true, not-false}
 use Rattle.rules.specs.Bytes.{all}
 use Rattle.rules.specs.TextNumbers.{isDigit}
-use Rattle.digits.proofs.Runs.{drop-next}
+use Rattle.digits.proofs.Alls.{passed-still, passed-worse, passed-all}
 use Rattle.digits.proofs.all_digits.Statement.{statement}
 use Rattle.digits.proofs.all_digits.Tie as tie
 
 abbrev Inv-loop : tie.InvT-loop
-Inv-loop text at i₀ i = (i ≤ length text) × (all isDigit (drop at text) ≡ all isDigit (drop i text))
+Inv-loop text at wrong₀ i₀ i-end wrong i = (at ≤ i) × (i ≤ length text) × (all isDigit (drop at text) ≡ eqb wrong 0 && all isDigit (drop i text))
 
 abbrev μ-loop : tie.MeasureT-loop
-μ-loop text at i₀ i = length text - i
+μ-loop text at wrong₀ i₀ i-end wrong i = length text - i
 
 loop-holds : tie.Need-loop-holds Inv-loop μ-loop
-loop-holds c = (search needs, refl)
+loop-holds c = (search needs, search needs, refl)
 
-returns : tie.Need-returns Inv-loop μ-loop
-returns c =
-    let a = c .before .before .before .before in
-    let e = sym (c .before .is-digit .ensures) ∙ not-true (c .before .is-digit .result) (c .if1 .taken) in
-    sym (a .loop .inv .1 ∙ rw (drop-next (now (a .before .before .args .text)) (a .loop .i) (c .before .before .before .loop-test .taken), e))
+abbrev text : tie.At-loop Inv-loop μ-loop → List ℕ
+text a = a .before .before .args .text .now
 
 loop-again : tie.Need-loop-again Inv-loop μ-loop
 loop-again c =
+    let w = c .before .not-digit in
     let a = c .before .before .before .before in
-    let e = sym (c .before .is-digit .ensures) ∙ not-false (c .before .is-digit .result) (c .if1 .left) in
-    (search needs, a .loop .inv .1 ∙ rw (drop-next (now (a .before .before .args .text)) (a .loop .i) (c .before .before .before .loop-test .taken), e))
+    ⊎-elim
+    (λ t. (search needs, search needs, rw (t .1) (passed-worse isDigit (text a) _ (a .loop .i) (a .loop .wrong) (w .result) (omega arith) (a .loop .inv .2) (w .ensures) (t .0 .taken))))
+    (λ t. (search needs, search needs, rw (t .1) (passed-still isDigit (text a) _ (a .loop .i) (a .loop .wrong) (w .result) (omega arith) (a .loop .inv .2) (w .ensures) (t .0 .left))))
+    (c .if1 .came)
 
-returns-2 : tie.Need-returns-2 Inv-loop μ-loop
-returns-2 c = sym (c .before .loop .inv .1 ∙ rw (drop-of-length-le (now (c .before .before .before .args .text)) (c .loop-test .left)))
+returns : tie.Need-returns Inv-loop μ-loop
+returns c =
+    let v = c .before .loop in
+    sym (v .inv .2 ∙ passed-all isDigit (c .before .before .before .args .text .now) (v .i) (v .wrong) (c .loop-test .left))
 
 pub all-digits-spec : {M : Type 1} → statement M
 all-digits-spec =
@@ -44,8 +49,7 @@ all-digits-spec =
     loop-holds
     (λ c. search needs)
     (λ c κs. search needs)
-    returns
     (λ c. search needs)
     (λ c. search needs)
     loop-again
-    returns-2)
+    returns)

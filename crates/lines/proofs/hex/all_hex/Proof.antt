@@ -10,7 +10,7 @@ use lib.ListN.{length, drop}
 use borrow.Author.Needs.{needs}
 use Rattle.rules.specs.Bytes.{all}
 use Rattle.lines.specs.Hex.{isHex}
-use Rattle.lines.proofs.Hexes.{passed-still, passed-worse, passed-all}
+use Rattle.digits.proofs.Alls.{passed-still, passed-worse, passed-all}
 use Rattle.lines.proofs.hex.all_hex.Statement.{statement}
 use Rattle.lines.proofs.hex.all_hex.Tie as tie
 
@@ -31,14 +31,14 @@ loop-again c =
     let w = c .before .not-hex in
     let a = c .before .before .before .before in
     ⊎-elim
-    (λ t. (search needs, rw (t .1) (passed-worse (line a) (a .loop .i) (a .loop .wrong) (w .result) (omega arith) (a .loop .inv .1) (w .ensures) (t .0 .taken))))
-    (λ t. (search needs, rw (t .1) (passed-still (line a) (a .loop .i) (a .loop .wrong) (w .result) (omega arith) (a .loop .inv .1) (w .ensures) (t .0 .left))))
+    (λ t. (search needs, rw (t .1) (passed-worse isHex (line a) _ (a .loop .i) (a .loop .wrong) (w .result) (omega arith) (a .loop .inv .1) (w .ensures) (t .0 .taken))))
+    (λ t. (search needs, rw (t .1) (passed-still isHex (line a) _ (a .loop .i) (a .loop .wrong) (w .result) (omega arith) (a .loop .inv .1) (w .ensures) (t .0 .left))))
     (c .if1 .came)
 
 returns : tie.Need-returns Inv-loop μ-loop
 returns c =
     let v = c .before .loop in
-    sym (v .inv .1 ∙ passed-all (c .before .before .before .args .line .now) (v .i) (v .wrong) (c .loop-test .left))
+    sym (v .inv .1 ∙ passed-all isHex (c .before .before .before .args .line .now) (v .i) (v .wrong) (c .loop-test .left))
 
 pub all-hex-spec : {M : Type 1} → statement M
 all-hex-spec =

@@ -1,22 +1,26 @@
--- Each test decides where the byte stands: before the digits, among them, between them and the letters, among these, or behind.
-use Rattle.lines.proofs.Hexes.{before-digits, a-digit, before-letters, a-letter, behind-letters}
+-- A hex digit is a decimal digit or a letter.
+use Prim.Native.Nat.{ℕ, _*_, _≤_}
+use mathlib.Core.Path.{_≡_}
+use native.Mathlib.Omega.{arith}
+use mathlib.Core.Bool.{Bool, true, false, cond}
+use mir.Facts.{fits-below}
+use borrow.Author.Needs.{needs}
+use Rattle.rules.specs.TextNumbers.{isDigit}
+use Rattle.lines.specs.Hex.{isLetter}
+use Rattle.lines.proofs.Hexes.{digit-or-letter}
 use Rattle.lines.proofs.hex.not_hex.Statement.{statement}
 use Rattle.lines.proofs.hex.not_hex.Tie as tie
 
+small : (a b : Bool) (x y : ℕ) → x ≡ cond a 0 1 → y ≡ cond b 0 1 → x * y ≤ 1
+small true b x y e f = rw e (omega arith)
+small false true x y e f = rw f (omega arith)
+small false false x y e f = rw (e, f) (omega arith)
+
+product : tie.Need-mul-result
+product c = let x = c .before .before .args .c in fits-below {n = 1} tt (small (isDigit x) (isLetter x) _ _ (c .before .not-digit .ensures) (c .not-letter .ensures))
+
 returns : tie.Need-returns
-returns c = rw (before-digits (c .before .args .c) (c .if1 .taken))
-
-returns-2 : tie.Need-returns-2
-returns-2 c = rw (a-digit (c .before .before .args .c) (c .before .if1 .left) (c .if2 .taken))
-
-returns-3 : tie.Need-returns-3
-returns-3 c = rw (before-letters (c .before .before .before .args .c) (c .before .if2 .left) (c .if3 .taken))
-
-returns-4 : tie.Need-returns-4
-returns-4 c = rw (a-letter (c .before .before .before .before .args .c) (c .before .if3 .left) (c .if4 .taken))
-
-returns-5 : tie.Need-returns-5
-returns-5 c = rw (behind-letters (c .before .before .before .before .args .c) (c .if4 .left))
+returns c = rw (c .before .not-digit .ensures, c .not-letter .ensures) (digit-or-letter (c .before .before .args .c) (search needs))
 
 pub not-hex-spec : {M : Type 1} → statement M
-not-hex-spec = tie.close (tie.spec returns returns-2 returns-3 returns-4 returns-5)
+not-hex-spec = tie.close (tie.spec (λ c κs. search needs) (λ c κs. search needs) product returns)
