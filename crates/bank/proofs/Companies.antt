@@ -1,6 +1,6 @@
 -- What follows the company prefix, in the code's own terms: k is what is read up to the prefix, and h the shape of what stands behind it.
 use Prim.Native.Nat.{ℕ, _+_, _-_, _*_, _^_, _≤_, _<_}
-use mathlib.Core.Path.{_≡_, refl, sym, ap, _∙_}
+use mathlib.Core.Path.{_≡_, sym, ap, _∙_}
 use mathlib.Core.Logic.{_⊎_}
 use mathlib.Core.List.{List, _++_}
 use native.Mathlib.Omega.{arith}
@@ -17,7 +17,7 @@ use Rattle.scheme.specs.Records.{readingOf}
 use Rattle.bank.specs.Reader.{LiesInCode, codeField}
 use Rattle.bank.specs.declared.reading.Company.{Company}
 use Rattle.bank.specs.declared.reading.Shape.{Shape}
-use Rattle.bank.specs.Reading.{Begun, companyOf, shapeOf, groupsAt}
+use Rattle.bank.specs.Reading.{Begun, shapeOf, groupsAt}
 use Rattle.bank.proofs.Sizes.{Roomy, roomy}
 use Rattle.bank.proofs.Groups.{length-groups}
 use Rattle.bank.proofs.Parts.{start}

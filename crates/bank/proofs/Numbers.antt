@@ -1,22 +1,20 @@
 -- The parts of a code, in the numbers that stand at their code bits.
-use Prim.Native.Nat.{ℕ, _+_, _*_, _/_, _^_, _≤_, _<_}
-use mathlib.Core.Path.{_≡_, refl, sym, ap, _∙_}
-use mathlib.Core.Bool.{not}
-use mathlib.Core.List.{List, [], _∷_}
+use Prim.Native.Nat.{ℕ, _+_, _*_, _^_, _≤_, _<_}
+use mathlib.Core.Path.{_≡_, refl}
+use mathlib.Core.List.{List, _∷_}
 use native.Mathlib.Omega.{arith}
-use lib.Dec.{eqb, ltb}
-use lib.ListN.{length, take, drop}
+use lib.Dec.{ltb}
+use lib.ListN.{length, drop}
 use lib.Seq.{drop-drop}
 use borrow.Author.Tests.{lt-ltb, le-ltb, ne-eqb}
-use Rattle.numeral.specs.Numeral.{value, numeral, shortest, spread, gather}
+use Rattle.numeral.specs.Numeral.{numeral, shortest}
 use Rattle.numeral.proofs.Values.{length-numeral}
 use Rattle.rules.specs.Answers.{Answer, refused, taken, _>>=_, _>>_, demand}
-use Rattle.rules.specs.Schemes.{integer, string, Body, F, integers, rowAt, prefixBits, prefixDigits}
-use Rattle.rules.specs.Schemes.{prefix as company}
+use Rattle.rules.specs.Schemes.{Body, F, prefixBits, prefixDigits}
 use Rattle.rules.specs.Grammar.{laid, bodyLayout}
 use Rattle.rules.specs.Coding.{wordCount, bankSize}
 use Rattle.rules.specs.Conditions.{partitionIn, rowIn}
-use Rattle.rules.specs.BankNumbers.{decimal, fieldIn, fieldsIn, stringIn, codeIn}
+use Rattle.rules.specs.BankNumbers.{decimal, fieldsIn, codeIn}
 use Rattle.rules.proofs.BankReads.{code-seen}
 use Rattle.bank.specs.Reader.{codeField}
 
@@ -30,9 +28,6 @@ module _ (b : List ℕ) (long : bankSize (wordCount b) ≤ length b) where
   module _ (c w : ℕ) (inside : c + w ≤ 16 * wordCount b) where
     pub decimal-at : (m n : ℕ) → decimal m w n (drop c (codeIn b)) ≡ (demand (ltb (codeField b c w) (10 ^ n)) m >> taken (record { symbols = numeral 10 n (codeField b c w); rest = drop (c + w) (codeIn b) }))
     decimal-at m n = rw (code-seen b long c w inside, drop-drop w c (codeIn b))
-
-    pub integer-at : fieldIn (integer w) (drop c (codeIn b)) ≡ taken (record { symbols = shortest 10 (codeField b c w); rest = drop (c + w) (codeIn b) })
-    integer-at = rw (code-seen b long c w inside, drop-drop w c (codeIn b))
 
   -- The filter and the company prefix.
   module _ (body : Body) where

@@ -1,6 +1,6 @@
 -- A bank that is refused: `N` for 9 and 10, which the raw line has too; `R` and two digits for the numbers behind.
 use Prim.Native.Nat.{ℕ, _/_, _≤_, _<_}
-use mathlib.Core.Path.{_≡_, refl}
+use mathlib.Core.Path.{_≡_}
 use mathlib.Core.Logic.{inl, inr}
 use mathlib.Core.List.{List, [], _∷_, tail}
 use native.Mathlib.Omega.{arith}

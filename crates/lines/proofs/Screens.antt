@@ -1,10 +1,10 @@
 -- What is written for a bank: its text or its raw line in a part of the output, and then what stands before it.
 use Prim.Native.Nat.{ℕ, _+_, _≤_}
 use Prim.Native.Char.{code}
-use mathlib.Core.Path.{_≡_, sym, ap, _∙_}
+use mathlib.Core.Path.{_≡_}
 use mathlib.Core.List.{List, _∷_}
 use native.Mathlib.Omega.{arith}
-use lib.ListN.{length, set, length-append, length-drop}
+use lib.ListN.{length, set, length-append}
 use borrow.Rule.Slice.PartMut.{mid-len}
 use Rattle.rules.specs.Answers.{refused}
 use Rattle.rules.specs.Grammar.{textOf}

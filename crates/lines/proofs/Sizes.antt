@@ -1,28 +1,26 @@
 -- How long a reply is: at most 150 bytes, and with its line feed at most four times the line with its own.
-use Prim.Native.Nat.{ℕ, _+_, _-_, _*_, _/_, _%_, _≤_, _<_}
-use mathlib.Core.Path.{_≡_, refl, sym, ap, _∙_}
+use Prim.Native.Nat.{ℕ, _+_, _-_, _*_, _≤_, _<_}
+use mathlib.Core.Path.{_≡_, refl, ap}
 use mathlib.Core.Logic.{_⊎_, inl, inr}
-use mathlib.Core.List.{List, [], _∷_, _++_}
-use mathlib.Core.Option.{Option, none, some}
+use mathlib.Core.List.{List, [], _∷_}
+use mathlib.Core.Option.{none, some}
 use mathlib.Core.Bool.{Bool, true, false, cond}
 use native.Mathlib.Omega.{arith}
-use lib.Dec.{T, leb, eqb, eqb→eq, leb→le, lit<, lit≤}
-use lib.ListN.{length, take, drop, length-append, length-take, length-drop}
-use Rattle.numeral.specs.Numeral.{size}
+use lib.Dec.{leb, eqb, lit<, lit≤}
+use lib.ListN.{length, drop, length-append, length-take, length-drop}
 use Rattle.numeral.proofs.Shortest.{size-le, size-small}
 use Rattle.rules.specs.Answers.{Answer, refused, taken}
-use Rattle.rules.specs.Bytes.{bytes, hexText}
+use Rattle.rules.specs.Bytes.{bytes}
 use Rattle.rules.specs.Conditions.{First, textRules, bankRules, rawRules}
 use Rattle.rules.specs.declared.Scheme.{Scheme}
 use Rattle.rules.specs.declared.Scheme.the-variants.{Sgtin96, Sgtin198, Sscc96, Sgln96, Sgln195, Grai96, Grai170, Giai96, Gsrn96, Gsrnp96, Gdti96, Gdti174, Gid96}
 use Rattle.rules.specs.Schemes.{words}
 use Rattle.rules.specs.Grammar.{Tag, TagText, textOf, start, label}
-use Rattle.rules.specs.Coding.{at, bankOf, bankSize, wordCount, within}
+use Rattle.rules.specs.Coding.{at, bankOf, wordCount, within}
 use Rattle.rules.specs.TextNumbers.{after, tagOfText}
 use Rattle.rules.specs.BankNumbers.{tagOfBank}
-use Rattle.rules.specs.Raw.{afiText, afi, rawText}
+use Rattle.rules.specs.Raw.{afiText, rawText}
 use Rattle.rules.specs.Screen.{screen}
-use Rattle.rules.proofs.Tests.{is-true, both}
 use Rattle.rules.proofs.Answers.{Reads}
 use Rattle.rules.proofs.Banks.{Shown, bank-length}
 use Rattle.rules.proofs.BankReads.{bank-reads, at-lt}
@@ -30,7 +28,7 @@ use Rattle.rules.proofs.TextReads.{tag-reads}
 use Rattle.rules.proofs.Lengths.{text-length, raw-length}
 use Rattle.digits.proofs.Texts.{length-hex}
 use Rattle.lines.specs.Hex.{isBank, bytesIn, bankIn}
-use Rattle.lines.specs.Replies.{decimal, lineN, lineR, shown, ofText, ofBank, textReply, bankReply, begun, replyOf, lineX}
+use Rattle.lines.specs.Replies.{lineN, shown, ofText, ofBank, bankReply, begun, replyOf, lineX}
 use Rattle.lines.specs.Lines.{feed, printed}
 use Rattle.lines.proofs.Hexes.{read-count}
 use Rattle.lines.proofs.Pieces.{decimal-long}

@@ -1,5 +1,5 @@
 -- The lines of an input, one after the other: the bytes up to the first line feed, and what stands behind it.
-use Prim.Native.Nat.{ℕ, zero, suc, _+_, _-_, _≤_, _<_}
+use Prim.Native.Nat.{ℕ, suc, _+_, _-_, _≤_, _<_}
 use mathlib.Core.Path.{_≡_, refl, sym, ap, _∙_}
 use mathlib.Core.List.{List, [], _∷_, _++_, append-nil}
 use mathlib.Core.Bool.{Bool, true, false, _||_, not, cond}
@@ -9,10 +9,10 @@ use lib.ListN.{length, take, drop, getD, length-drop, drop-of-length-le}
 use lib.Seq.{take-at, take-append-add, drop-append-add, drop-drop}
 use borrow.Author.Tests.{ne-eqb}
 use Rattle.rules.specs.Bytes.{among, upto, behind}
-use Rattle.rules.proofs.Tests.{is-true, is-false, both, and}
+use Rattle.rules.proofs.Tests.{is-false, both, and}
 use Rattle.rules.proofs.Runs.{run-is, without, among-of}
 use Rattle.digits.proofs.Runs.{drop-next}
-use Rattle.lines.specs.Lines.{feed, before, linesOf, printed, each, outputOf, finished, whole, lastOf}
+use Rattle.lines.specs.Lines.{feed, linesOf, printed, outputOf, finished, whole, lastOf}
 
 -- no line feed stands among the bytes
 abbrev pub Unfed : List ℕ → Type 0

@@ -1,15 +1,14 @@
 -- `splice`: one piece written after the other, and in another base.
 use mathlib.Core.Path.{_≡_, refl, sym, _∙_}
-use Prim.Native.Nat.{ℕ, suc, _+_, _*_, _/_, _^_, _≤_, _<_}
+use Prim.Native.Nat.{ℕ, suc, _+_, _*_, _^_, _≤_, _<_}
 use native.Mathlib.Nat.{add-zero, add-assoc, mul-add}
 use native.Mathlib.Numerals.{add-one}
 use native.Mathlib.Omega.{arith}
 use mathlib.Core.List.{List, [], _∷_, _++_, append-assoc, append-nil}
 use lib.ListN.{length, take, drop, set, length-append, length-take, length-drop, take-append-drop}
 use lib.Seq.{take-at, drop-at, drop-append-add, drop-drop, length-take-le, set-split, append-snoc, take-append-seam, take-set-le}
-use Rattle.numeral.specs.Numeral.{numeral, Digits, spread, gather, splice}
-use Rattle.numeral.proofs.Arithmetic.{div-pow}
-use Rattle.numeral.proofs.Values.{length-numeral, digits-append, digits-take, digits-drop, numeral-append}
+use Rattle.numeral.specs.Numeral.{Digits, spread, gather, splice}
+use Rattle.numeral.proofs.Values.{digits-append, digits-take, digits-drop}
 use Rattle.numeral.proofs.Spreads.{length-spread, spread-append, drop-spread, take-spread, spread-inj, length-gather, digits-gather, spread-gather}
 
 pub length-splice : (s : List ℕ) (p : ℕ) (x : List ℕ) → p + length x ≤ length s → length (splice s p x) ≡ length s
@@ -69,13 +68,6 @@ splice-behind s p x a q e h =
     let rest : drop q (set s q a) ≡ a ∷ drop (suc q) s = rw (set-split s q a h) (drop-at (take q s) (a ∷ drop (suc q) s) q (length-take-le q s (omega arith))) in
     let l : p + length (x ++ (a ∷ [])) ≡ suc q = simp length-append (omega arith) in
     rw (take-set-le p s q a (omega arith), e, rest, l) (simp append-assoc)
-
--- the next piece of one numeral: k digits of v are written, and n more follow
-pub splice-more : (b : ℕ) (s : List ℕ) (p k n r v : ℕ) → p ≤ length s
-    → splice (splice s p (numeral b k (v / b ^ (n + r)))) (p + k) (numeral b n (v / b ^ r)) ≡ splice s p (numeral b (k + n) (v / b ^ r))
-splice-more b s p k n r v h =
-    let e : p + k ≡ p + length (numeral b k (v / b ^ (n + r))) = rw length-numeral in
-    rw (e, splice-splice s p, numeral-append b k n (v / b ^ r), div-pow b v n r)
 
 -- whole digits replaced
 pub spread-splice : (b n : ℕ) (s : List ℕ) (k : ℕ) (x : List ℕ) → spread b n (splice s k x) ≡ splice (spread b n s) (n * k) (spread b n x)

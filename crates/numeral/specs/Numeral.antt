@@ -44,7 +44,3 @@ shortest b v = numeral b (size b v) v
 -- s with the elements from place p on replaced by those of x
 unfoldable pub splice : List ℕ → ℕ → List ℕ → List ℕ
 splice s p x = take p s ++ x ++ drop (p + length x) s
-
--- the digit x with v in its n digits above the r lowest
-abbrev pub replaced : ℕ → ℕ → ℕ → ℕ → ℕ → ℕ
-replaced b n r x v = (x / b ^ (n + r) * b ^ n + v % b ^ n) * b ^ r + x % b ^ r

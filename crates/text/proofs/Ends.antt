@@ -35,9 +35,6 @@ module _ (f : Form) (u : List ℕ) (n : ℕ) where
   pub last-wrong : (ds : List ℕ) → digitsIn u ≡ some ds → shaped (formOf f) ds ≡ false → lastIn n (formOf f) u ≡ refused n
   last-wrong ds e s = rw (symbols-digits f u, e, s)
 
-  pub last-large : (ds : List ℕ) → digitsIn u ≡ some ds → shaped (formOf f) ds ≡ true → sized (formOf f) ds ≡ false → lastIn n (formOf f) u ≡ refused 8
-  last-large ds e s z = rw (symbols-digits f u, e, s, z)
-
   pub last-taken : (ds : List ℕ) → digitsIn u ≡ some ds → shaped (formOf f) ds ≡ true → sized (formOf f) ds ≡ true → lastIn n (formOf f) u ≡ taken ds
   last-taken ds e s z = rw (symbols-digits f u, e, s, z)
 

@@ -11,8 +11,8 @@ use lib.ListN.{length}
 use borrow.Author.Tests.{lt-ltb, le-ltb, le-leb, lt-leb, eq-eqb, ne-eqb}
 use Rattle.numeral.specs.Numeral.{value}
 use Rattle.numeral.proofs.Arithmetic.{lt-or-ge}
-use Rattle.rules.specs.Schemes.{prefix, digits}
-use Rattle.rules.specs.Grammar.{digit, plainNumber, shaped, sized}
+use Rattle.rules.specs.Schemes.{prefix}
+use Rattle.rules.specs.Grammar.{plainNumber, shaped, sized}
 use Rattle.digits.proofs.Parts.{long-value}
 use Rattle.text.specs.Parts.{formOf, Short, plainly, fitting}
 use Rattle.text.specs.declared.parts.Form.{Form}

@@ -10,7 +10,6 @@ use Rattle.numeral.specs.Numeral.{value}
 use Rattle.rules.specs.Answers.{Answer, refused, taken, _>>=_}
 use Rattle.rules.specs.Bytes.{behind, dot}
 use Rattle.rules.specs.Schemes.{Form, digits, integer, string}
-use Rattle.rules.specs.Grammar.{last}
 use Rattle.rules.specs.TextNumbers.{charactersIn, partIn, lastIn, partsIn}
 use Rattle.alphabet.specs.declared.Spelled.{Spelled}
 use Rattle.alphabet.specs.Strings.{spelledOf}

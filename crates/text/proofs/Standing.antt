@@ -12,7 +12,7 @@ use lib.Seq.{getD-drop}
 use borrow.Author.Tests.{ne-eqb}
 use Rattle.numeral.specs.Numeral.{value}
 use Rattle.rules.specs.Answers.{refused, taken, _>>=_, _>>_, demand, given}
-use Rattle.rules.specs.Bytes.{among, upto, behind, dot, digitsText}
+use Rattle.rules.specs.Bytes.{among, upto, dot, digitsText}
 use Rattle.rules.specs.Grammar.{shaped, sized}
 use Rattle.rules.specs.TextNumbers.{digitsIn, symbolsIn, kept, partIn}
 use Rattle.digits.specs.Digits.{leadingDigits}

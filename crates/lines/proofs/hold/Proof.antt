@@ -1,5 +1,5 @@
 -- The invariant: the first i bytes are moved. What is read next stands where it stood.
-use Prim.Native.Nat.{_+_, _-_, _≤_, min}
+use Prim.Native.Nat.{_-_, _≤_, min}
 use mathlib.Core.Path.{_≡_, refl, sym}
 use native.Mathlib.Omega.{arith}
 use native.Mathlib.Nat.{le-of-lt}

@@ -1,6 +1,6 @@
 -- Each arm is the power of its number, which the checker computes; at most 12 is left for the last.
 use Prim.Native.Nat.{ℕ, suc, _^_, _≤_}
-use mathlib.Core.Path.{_≡_, refl, sym, ap}
+use mathlib.Core.Path.{_≡_, sym, ap}
 use native.Mathlib.Omega.{arith}
 use Rattle.bank.proofs.reading.power.Statement.{statement}
 use Rattle.bank.proofs.reading.power.Tie as tie

@@ -1,5 +1,4 @@
 -- Each early return is the refusal of its rule, by the tests that led there; past them all the control word is in order.
-use mathlib.Core.Path.{_≡_, sym, _∙_}
 use Prim.Native.Nat.{_<_}
 use native.Mathlib.Omega.{arith}
 use borrow.Author.Needs.{needs}

@@ -1,7 +1,7 @@
 -- At each variant the shape is computed, with the cell or the bits that the row has.
 use mathlib.Core.Path.{_≡_, refl, sym, ap, _∙_}
 use borrow.Author.Needs.{needs}
-use Rattle.rules.specs.Schemes.{Row, rowAt}
+use Rattle.rules.specs.Schemes.{Row}
 use Rattle.scheme.specs.declared.lines.Parts.{Parts}
 use Rattle.bank.specs.declared.reading.Shape.{Shape}
 use Rattle.bank.specs.Reading.{shapeOf}

@@ -1,5 +1,5 @@
 -- Zero bits stand at the end of a code whose parts say so, and of no other.
-use mathlib.Core.Path.{_≡_, refl, sym, ap}
+use mathlib.Core.Path.{_≡_, refl}
 use mathlib.Core.List.{[], _∷_}
 use borrow.Author.Needs.{needs}
 use denote.Enum.Declared.{tagOf}

@@ -1,7 +1,7 @@
 -- `bitreader::take` meets its contract: a walk of its MIR, by hand. The struct is taken apart, `step_at` is called, and the result is made of its value and of a reader within: the same slice, and the code bit past it.
 -- The struct is Copy: what it owns is had twice, one copy is kept whole for the exit, and the other, with the new code bit's facts in the place of at's, is what the reader within the result owns. Assumes nothing.
 use mathlib.Core.Path.{_≡_, refl, ap}
-use Prim.Native.Nat.{ℕ, _<_, _≤_, _+_, _*_, _^_}
+use Prim.Native.Nat.{ℕ, _<_, _^_}
 use mathlib.Core.List.{[], _∷_}
 use lib.Dec.{T as Holds}
 use lib.ListN.{length}
