@@ -12,9 +12,9 @@ pub fn next(left: usize) -> usize
 }
 
 // The number that the n characters from index `from` on are.
-pub fn joined(characters: [u8; 20], from: usize, n: usize) -> u64
-    requires { ⌜ (n ≤ 8) × (from + n ≤ 20) × Digits 128 characters ⌝ }
-    ensures { λ r. ⌜ r ≡ value 128 (take n (drop from characters)) ⌝ }
+pub fn joined(characters: &[u8], from: usize, n: usize) -> u64
+    requires { ⌜ (n ≤ 8) × (from + n ≤ length (now characters)) × Digits 128 (now characters) ⌝ }
+    ensures { λ r. ⌜ r ≡ value 128 (take n (drop from (now (characters .entry)))) ⌝ }
 {
     let mut v: u64 = 0;
     let mut i = 0;

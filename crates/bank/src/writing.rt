@@ -75,7 +75,7 @@ fn put_string(out: &mut [u8], s: Stream, characters: [u8; 20], k: usize) -> Stre
     let mut i = 0;
     while i < k {
         let n = eights::next(k - i);
-        end = bits::push(out, end, 7 * n, eights::joined(characters, i, n));
+        end = bits::push(out, end, 7 * n, eights::joined(&characters, i, n));
         i += n;
     }
     end

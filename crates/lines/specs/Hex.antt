@@ -14,6 +14,7 @@ hexDigits = bytes "0123456789ABCDEF"
 abbrev pub isHex : ℕ → Bool
 isHex c = among c hexDigits
 
+-- the letters among them
 abbrev pub isLetter : ℕ → Bool
 isLetter c = leb (code "A") c && leb c (code "F")
 

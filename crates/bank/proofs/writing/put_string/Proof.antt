@@ -10,16 +10,16 @@ use Rattle.bank.proofs.writing.put_string.Statement.{statement}
 use Rattle.bank.proofs.writing.put_string.Tie as tie
 
 abbrev Inv-loop : tie.InvT-loop
-Inv-loop out₀ characters k end₀ i₀ out end i = (i ≤ k) × Begun out₀ end₀ characters i out end
+Inv-loop out₀ k characters end₀ i₀ out end i = (i ≤ k) × Begun out₀ end₀ characters i out end
 
 abbrev μ-loop : tie.MeasureT-loop
-μ-loop out₀ characters k end₀ i₀ out end i = k - i
+μ-loop out₀ k characters end₀ i₀ out end i = k - i
 
 -- the next ones are among the k
 inside : (c : tie.After-next Inv-loop μ-loop) → c .before .before .loop .i + c .next .result ≤ c .before .before .before .before .args .k
 inside c = search needs
 
-among : (c : tie.After-next Inv-loop μ-loop) → c .before .before .loop .i + c .next .result ≤ length (c .before .before .before .before .args .characters)
+among : (c : tie.After-next Inv-loop μ-loop) → c .before .before .loop .i + c .next .result ≤ length (c .before .before .before .before .args .t3)
 among c = let s = c .before .before .before .before in omega (arith, inside c, s .good .1 .1 .0, s .pre .most)
 
 loop-holds : tie.Need-loop-holds Inv-loop μ-loop
@@ -27,7 +27,7 @@ loop-holds c = let s = c .before in (search needs, none-yet (s .args .out .now) 
 
 push-requires : tie.Need-push-requires Inv-loop μ-loop
 push-requires c κs =
-    let n = c .before .before in
+    let n = c .before .before .before in
     let s = n .before .before .before .before in
     let v = n .before .before .loop in
     rw (c .joined .ensures) (takes-next (s .args .out .now) (s .pre) (v .i) (n .next .result) (inside n) (search needs) (among n) (v .inv .1))
@@ -36,7 +36,7 @@ loop-again : tie.Need-loop-again Inv-loop μ-loop
 loop-again c =
     let p = c .before .before in
     let j = p .before in
-    let n = j .before .before in
+    let n = j .before .before .before in
     let s = n .before .before .before .before in
     let v = n .before .before .loop in
     (search needs, some-more (s .args .out .now) (s .pre) (v .i) (n .next .result) (inside n) (search needs) (among n) (v .inv .1) (rw (j .joined .ensures) at (p .push .ensures)))
@@ -60,7 +60,8 @@ put-string-spec =
     (λ c. search needs)
     (λ c κs. search needs)
     (λ c. search needs)
-    (λ c κs. search needs)
+    (λ c. search needs)
+    (λ c κs. let n = c .before .before in (search needs, among n, n .before .before .before .before .pre .groups))
     push-requires
     (λ c. search needs)
     (λ c. search needs)
