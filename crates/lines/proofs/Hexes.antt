@@ -2,7 +2,7 @@
 use Prim.Native.Nat.{ℕ, zero, suc, _+_, _*_, _/_, _%_, _≤_, _<_}
 use mathlib.Core.Path.{_≡_, refl, sym, ap, _∙_}
 use mathlib.Core.List.{List, [], _∷_, _++_}
-use mathlib.Core.Bool.{Bool, true, _&&_, cond}
+use mathlib.Core.Bool.{true, _&&_}
 use native.Mathlib.Omega.{arith}
 use lib.Dec.{T, leb, ltb, eqb, eqb→eq, leb→le, ltb→lt}
 use lib.ListN.{length, take, drop, getD, set}
@@ -12,18 +12,20 @@ use Rattle.numeral.proofs.Splices.{splice-snoc, length-splice}
 use Rattle.rules.specs.Bytes.{all}
 use Rattle.rules.specs.TextNumbers.{isDigit}
 use Rattle.rules.proofs.Tests.{both, all-among, below-is}
+use Rattle.digits.proofs.Alls.{wrongOf}
 use Rattle.lines.proofs.Pieces.{splice-front}
 use Rattle.lines.specs.Hex.{hexDigits, isHex, isLetter, hexValue, bytesIn, isBank}
 
--- Which bytes are digits: decimal digits or letters, by one test over the 256 bytes.
-split : ℕ → ℕ → Bool
-split c w = eqb (cond (isDigit c) 0 1 * cond (isLetter c) 0 1) w
+-- Which bytes are letters, and which are digits: two tests over the 256 bytes.
+module _ (c : ℕ) (byte : c < 256) where
+  pub letter : wrongOf (leb 65 c && leb c 70) ≡ wrongOf (isLetter c)
+  letter = eqb→eq _ _ (below-is (λ c. eqb (wrongOf (leb 65 c && leb c 70)) (wrongOf (isLetter c))) 256 tt c byte)
+
+  pub digit-or-letter : wrongOf (isDigit c) * wrongOf (isLetter c) ≡ wrongOf (isHex c)
+  unfolding hexDigits
+  digit-or-letter = eqb→eq _ _ (below-is (λ c. eqb (wrongOf (isDigit c) * wrongOf (isLetter c)) (wrongOf (isHex c))) 256 tt c byte)
 
 module _ (c : ℕ) where
-  pub digit-or-letter : c < 256 → cond (isDigit c) 0 1 * cond (isLetter c) 0 1 ≡ cond (isHex c) 0 1
-  unfolding hexDigits split
-  digit-or-letter h = eqb→eq _ _ (below-is (λ c. split c (cond (isHex c) 0 1)) 256 tt c h)
-
   -- what a digit is worth
   pub value-is : T (isHex c) → c % 16 + 9 * (c / 64) ≡ hexValue c
   unfolding hexDigits

@@ -48,8 +48,8 @@ module _ (input out₀ out : List ℕ) (read written : ℕ) (p : Passed input ou
         let n : length (outputOf (whole input)) ≡ written = ap length all ∙ k in (
           omega (arith, p .ended, ap length none),
           record {
-            count = sym n;
-            output = sym (splice-front out₀ (outputOf (whole input)) ∙ ap₂ (λ w m. w ++ drop m out₀) all n ∙ ap (take written out ++_) (sym (p .rest)) ∙ take-append-drop written out);
+            end = omega (arith, n);
+            bytes = sym (splice-front out₀ (outputOf (whole input)) ∙ ap₂ (λ w m. w ++ drop m out₀) all n ∙ ap (take written out ++_) (sym (p .rest)) ∙ take-append-drop written out);
           },
         )
 
@@ -61,8 +61,8 @@ module _ (input out₀ out : List ℕ) (read written : ℕ) (p : Passed input ou
           let l : List ℕ = upto feed (drop read input) in
           let x : List ℕ = printed l in
           let same-line : take (end - read) (drop read input) ≡ l = the-line input read end place h in
-          let n : k ≡ length x = w .count ∙ ap (λ t. length (printed t)) same-line in
-          let o : e ≡ x ++ drop (length x) (part out written) = w .output ∙ ap (λ t. splice (part out written) 0 (printed t)) same-line ∙ splice-front (part out written) x in
+          let n : k ≡ length x = omega (arith, w .end, ap (λ t. length (printed t)) same-line) in
+          let o : e ≡ x ++ drop (length x) (part out written) = w .bytes ∙ ap (λ t. splice (part out written) 0 (printed t)) same-line ∙ splice-front (part out written) x in
           let long = printed-long l in
           let inside : written + length x ≤ length out = omega (arith, p .few, p .room, p .same) in
           let b : back out written e ≡ splice out written x = put-back out e written x (omega arith) o in

@@ -75,8 +75,8 @@ raw-behind l l₁ l₂ x n at h two i w =
     let a : List ℕ = code "R" ∷ space ∷ decimal n in
     let k : length l₁ ≡ length l = ap length i ∙ length-splice l 5 x h in
     let f : length (a ++ (space ∷ [])) ≡ 5 = simp length-append (omega arith) in
-    ap (λ z. set z at space) (w .output)
-    ∙ splice-snoc l₁ 0 a space at (omega (arith, w .count)) (omega (arith, w .count))
+    ap (λ z. set z at space) (w .bytes)
+    ∙ splice-snoc l₁ 0 a space at (omega (arith, w .end)) (omega (arith, w .end))
     ∙ ap (λ z. splice z 0 (a ++ (space ∷ []))) i
     ∙ before-piece l 5 (a ++ (space ∷ [])) x f (omega arith)
     ∙ ap (splice l 0) (append-snoc a space x)
@@ -107,18 +107,18 @@ moved-all l l₁ from m n h e i =
     let d : List ℕ = drop from l in
     let k : length d ≡ length l - from = length-drop from l in
     let w : take n d ≡ take m d = take-least d m n (omega arith) in
-    record { count = sym (length-take m d ∙ omega arith); output = i ∙ ap (splice l 0) w }
+    record { end = omega (arith, length-take m d); bytes = i ∙ ap (splice l 0) w }
 
 -- no second length and output keep what `Wrote` says
 pub one-writing : (w l : List ℕ) (n m : ℕ) (e f : List ℕ) → Wrote w l n e → Wrote w l m f → (n ≡ m) × (e ≡ f)
-one-writing w l n m e f x y = (x .count ∙ sym (y .count), x .output ∙ sym (y .output))
+one-writing w l n m e f x y = (x .end ∙ sym (y .end), x .bytes ∙ sym (y .bytes))
 
 -- nothing is written
 pub wrote-nothing : (l : List ℕ) → Wrote [] l 0 l
-wrote-nothing l = record { count = refl; output = sym (splice-nil l 0) }
+wrote-nothing l = record { end = refl; bytes = sym (splice-nil l 0) }
 
 -- what is written is no longer than the output
 pub wrote-within : (w l after : List ℕ) (n : ℕ) → Wrote w l n after → length after ≡ length l → n ≤ length after
 wrote-within w l after n h e =
-    let k = ap length (h .output ∙ splice-front l w) in
-    omega (arith, h .count, k, length-append w (drop (length w) l), length-drop (length w) l)
+    let k = ap length (h .bytes ∙ splice-front l w) in
+    omega (arith, h .end, k, length-append w (drop (length w) l), length-drop (length w) l)

@@ -27,7 +27,7 @@ module _ (b l e : List ℕ) (k : ℕ) (long : replyRoom ≤ length l) where
   pub text-shown : answered (Written k) e ≡ bankToText b (part l 2) → (k ≤ 99) × Wrote (ofBank b (tagOfBank b)) l (k + 2) (set (set (back l 2 e) 0 (code "T")) 1 space)
   text-shown h =
       let (τ, a, c, u, o) = text-written b (part l 2) e k (room 2 (omega arith)) h in
-      (u, rw a (record { count = omega arith; output = text-behind l (back l 2 e) (textOf τ) (code "T") (omega arith) (put-back l e 2 (textOf τ) (omega arith) o) }))
+      (u, rw a (record { end = omega arith; bytes = text-behind l (back l 2 e) (textOf τ) (code "T") (omega arith) (put-back l e 2 (textOf τ) (omega arith) o) }))
 
   pub text-hidden : answered (Refused k) e ≡ bankToText b (part l 2) → (tagOfBank b ≡ refused k) × (back l 2 e ≡ l)
   text-hidden h = let (a, o) = bank-refused b (part l 2) e k (room 2 (omega arith)) h in (a, put-nothing l e 2 o)
@@ -42,10 +42,10 @@ module _ (b l e : List ℕ) (k : ℕ) (long : replyRoom ≤ length l) where
         let d = decimal-long n in
         let u = raw-length b in (
           omega arith,
-          omega (arith, w .count),
+          omega (arith, w .end),
           rw (with-raw b n p q) (record {
-            count = simp length-append (omega arith);
-            output = raw-behind l (back l 5 e) after (rawText b) n at (omega arith) two (put-back l e 5 (rawText b) (omega arith) o) w;
+            end = simp length-append (omega arith);
+            bytes = raw-behind l (back l 5 e) after (rawText b) n at (omega arith) two (put-back l e 5 (rawText b) (omega arith) o) w;
           }),
         )
 

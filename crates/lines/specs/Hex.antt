@@ -1,6 +1,5 @@
 -- A bank in hex: an even number, at most 128, of upper-case hex digits.
 use Prim.Native.Nat.{ℕ, _+_, _*_, _%_}
-use Prim.Native.Char.{code}
 use mathlib.Core.List.{List, [], _∷_}
 use mathlib.Core.Option.{Option, none, some}
 use mathlib.Core.Bool.{Bool, _&&_, cond}
@@ -16,7 +15,7 @@ isHex c = among c hexDigits
 
 -- the letters among them
 abbrev pub isLetter : ℕ → Bool
-isLetter c = leb (code "A") c && leb c (code "F")
+isLetter c = among c (bytes "ABCDEF")
 
 -- a digit's value is how many stand before it
 abbrev pub hexValue : ℕ → ℕ

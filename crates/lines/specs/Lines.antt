@@ -1,12 +1,11 @@
 -- The lines of an input, and all that is printed for it.
 use Prim.Native.Nat.{ℕ, zero, suc, _*_, _+_}
-use mathlib.Core.Path.{_≡_}
 use mathlib.Core.List.{List, [], _∷_, _++_}
 use mathlib.Core.Bool.{cond}
 use lib.Dec.{leb, eqb}
 use lib.ListN.{length, take, drop}
-use Rattle.numeral.specs.Numeral.{splice}
 use Rattle.rules.specs.Bytes.{among}
+use Rattle.digits.specs.Pieces.{Puts}
 use Rattle.lines.specs.Replies.{replyOf}
 
 abbrev pub feed : ℕ
@@ -65,10 +64,9 @@ joined (p ∷ ps) = p ++ joined ps
 
 -- WRITING
 
--- w is written from an output's start on, the rest of the output stays, and n is the length of w
-pub record Wrote (w out : List ℕ) (n : ℕ) (after : List ℕ) : Type 0 where
-  pub count : n ≡ length w
-  pub output : after ≡ splice out 0 w
+-- w is written from an output's start on, and n is its length
+abbrev pub Wrote : List ℕ → List ℕ → ℕ → List ℕ → Type 0
+Wrote w out n after = Puts w 0 out n after
 
 -- w, if the output has room; nothing, if it is shorter
 abbrev pub ifRoom : ℕ → List ℕ → List ℕ → List ℕ

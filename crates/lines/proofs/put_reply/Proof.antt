@@ -14,13 +14,13 @@ slice-write-out : tie.Need-slice-write-out
 slice-write-out c =
     let w = c .before .before .write in
     let s = c .before .before .before .before .before .before in
-    omega (arith, w .ensures .count, w .kept .1 .0, reply-long (s .args .line .now))
+    omega (arith, w .ensures .end, w .kept .1 .0, reply-long (s .args .line .now))
 
 add-result : tie.Need-add-result
 add-result c =
     let w = c .before .before .write in
     let s = c .before .before .before .before .before .before in
-    omega (arith, w .ensures .count, reply-long (s .args .line .now))
+    omega (arith, w .ensures .end, reply-long (s .args .line .now))
 
 returns : tie.Need-returns
 returns c =
@@ -29,8 +29,8 @@ returns c =
     let r = replyOf (s .args .line .now) in
     let k = reply-long (s .args .line .now) in
     record {
-      count = simp length-append (omega (arith, w .ensures .count));
-      output = ap (λ l. set l (w .result) feed) (w .ensures .output) ∙ splice-snoc (s .args .out .now) 0 r feed (w .result) (omega (arith, w .ensures .count)) (omega (arith, w .ensures .count));
+      end = simp length-append (omega (arith, w .ensures .end));
+      bytes = ap (λ l. set l (w .result) feed) (w .ensures .bytes) ∙ splice-snoc (s .args .out .now) 0 r feed (w .result) (omega (arith, w .ensures .end)) (omega (arith, w .ensures .end));
     }
 
 pub put-reply-spec : {M : Type 1} → statement M

@@ -12,7 +12,7 @@ within : tie.Need-slice-reshare-prefix-write-all
 within c = let r = c .before .before .replies in wrote-within _ _ _ _ (r .ensures .1) (r .kept .1 .0)
 
 few : tie.Need-returns-2
-few c = let h = c .before .before .hold in omega (arith, simp length-take at (h .ensures .count))
+few c = let h = c .before .before .hold in omega (arith, simp length-take at (h .ensures .end))
 
 pub one-turn-spec : {M : Type 1} → statement M
 one-turn-spec =

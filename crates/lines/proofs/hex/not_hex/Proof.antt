@@ -2,16 +2,17 @@
 use Prim.Native.Nat.{ℕ, _*_, _≤_}
 use mathlib.Core.Path.{_≡_}
 use native.Mathlib.Omega.{arith}
-use mathlib.Core.Bool.{Bool, true, false, cond}
+use mathlib.Core.Bool.{Bool, true, false}
 use mir.Facts.{fits-below}
 use borrow.Author.Needs.{needs}
 use Rattle.rules.specs.TextNumbers.{isDigit}
+use Rattle.digits.proofs.Alls.{wrongOf}
 use Rattle.lines.specs.Hex.{isLetter}
 use Rattle.lines.proofs.Hexes.{digit-or-letter}
 use Rattle.lines.proofs.hex.not_hex.Statement.{statement}
 use Rattle.lines.proofs.hex.not_hex.Tie as tie
 
-small : (a b : Bool) (x y : ℕ) → x ≡ cond a 0 1 → y ≡ cond b 0 1 → x * y ≤ 1
+small : (a b : Bool) (x y : ℕ) → x ≡ wrongOf a → y ≡ wrongOf b → x * y ≤ 1
 small true b x y e f = rw e (omega arith)
 small false true x y e f = rw f (omega arith)
 small false false x y e f = rw (e, f) (omega arith)

@@ -17,7 +17,7 @@ returns c =
     let put = c .before .before .put-hex in
     let s = c .before .before .before .before .before .before in
     let b = s .args .bank .now in
-    record { count = omega (arith, length-hex b); output = put .ensures ∙ lettered (s .args .out .now) 66 32 (hexText b) (omega arith) }
+    record { end = omega (arith, length-hex b); bytes = put .ensures ∙ lettered (s .args .out .now) 66 32 (hexText b) (omega arith) }
 
 pub put-bank-spec : {M : Type 1} → statement M
 put-bank-spec =

@@ -6,7 +6,7 @@ use Rattle.lines.proofs.letters.put_neither.Statement.{statement}
 use Rattle.lines.proofs.letters.put_neither.Tie as tie
 
 returns : tie.Need-returns
-returns c = record { count = refl; output = sym (splice-one (c .args .out .now) 0 88 (c .pre)) }
+returns c = record { end = refl; bytes = sym (splice-one (c .args .out .now) 0 88 (c .pre)) }
 
 pub put-neither-spec : {M : Type 1} → statement M
 put-neither-spec = tie.close (tie.spec (λ c. search needs) (λ c. search needs) returns)

@@ -20,8 +20,8 @@ returns c =
     let s = c .before .before .before .before .before in
     let n = s .args .number in
     record {
-      count = omega (arith, decimal-long n, put .ensures .0);
-      output = put .ensures .1 ∙ lettered (s .args .out .now) (s .args .letter) 32 (decimal n) (omega arith);
+      end = omega (arith, decimal-long n, put .ensures .0);
+      bytes = put .ensures .1 ∙ lettered (s .args .out .now) (s .args .letter) 32 (decimal n) (omega arith);
     }
 
 pub put-number-spec : {M : Type 1} → statement M
