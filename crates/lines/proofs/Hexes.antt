@@ -9,12 +9,12 @@ use lib.ListN.{length, take, drop, getD, set}
 use lib.Seq.{take-at}
 use Rattle.numeral.specs.Numeral.{splice}
 use Rattle.numeral.proofs.Splices.{splice-snoc, length-splice}
-use Rattle.rules.specs.Bytes.{all}
+use Rattle.rules.specs.Bytes.{all, hexDigits}
 use Rattle.rules.specs.TextNumbers.{isDigit}
 use Rattle.rules.proofs.Tests.{both, all-among, below-is}
 use Rattle.digits.proofs.Alls.{wrongOf}
 use Rattle.lines.proofs.Pieces.{splice-front}
-use Rattle.lines.specs.Hex.{hexDigits, isHex, isLetter, hexValue, bytesIn, isBank}
+use Rattle.lines.specs.Hex.{isHex, isLetter, hexValue, bytesIn, isBank}
 
 -- Which bytes are letters, and which are digits: two tests over the 256 bytes.
 module _ (c : ℕ) (byte : c < 256) where
@@ -22,17 +22,17 @@ module _ (c : ℕ) (byte : c < 256) where
   letter = eqb→eq _ _ (below-is (λ c. eqb (wrongOf (leb 65 c && leb c 70)) (wrongOf (isLetter c))) 256 tt c byte)
 
   pub digit-or-letter : wrongOf (isDigit c) * wrongOf (isLetter c) ≡ wrongOf (isHex c)
-  unfolding hexDigits
+  unfolding isHex
   digit-or-letter = eqb→eq _ _ (below-is (λ c. eqb (wrongOf (isDigit c) * wrongOf (isLetter c)) (wrongOf (isHex c))) 256 tt c byte)
 
 module _ (c : ℕ) where
   -- what a digit is worth
   pub value-is : T (isHex c) → c % 16 + 9 * (c / 64) ≡ hexValue c
-  unfolding hexDigits
+  unfolding isHex hexValue
   value-is h = sym (eqb→eq (hexValue c) (c % 16 + 9 * (c / 64)) (all-among (λ x. eqb (hexValue x) (x % 16 + 9 * (x / 64))) hexDigits c tt h))
 
   pub value-lt : T (isHex c) → hexValue c < 16
-  unfolding hexDigits
+  unfolding isHex hexValue
   value-lt h = ltb→lt (hexValue c) 16 (all-among (λ x. ltb (hexValue x) 16) hexDigits c tt h)
 
 -- Two digits to a byte.

@@ -1,15 +1,16 @@
 -- An input in pieces: what is printed for them, one after the other, is what is printed for the whole. A line that goes on beyond its first
 -- 201 bytes is answered X, whatever follows, so nothing more of it has to be kept.
-use Prim.Native.Nat.{ℕ, zero, suc, _<_}
+use Prim.Native.Nat.{ℕ, zero, suc, _≤_, _<_}
 use mathlib.Core.Path.{_≡_, refl, sym, ap, _∙_}
-use mathlib.Core.Logic.{_⊎_, inl, inr}
+use mathlib.Core.Logic.{_⊎_, ⊎-elim, inl, inr}
 use mathlib.Core.List.{List, [], _∷_, _++_, append-assoc, append-nil}
 use mathlib.Core.Bool.{Bool, true, false, not, cond}
 use native.Mathlib.Omega.{arith}
-use lib.Dec.{eqb, eqb→eq, leb}
+use lib.Dec.{eqb, eqb→eq}
 use lib.ListN.{length, take, drop, length-append}
 use lib.Seq.{take-all, drop-append-seam, length-take-le}
-use borrow.Author.Tests.{lt-leb, leb-true, leb-false}
+use borrow.Author.Tests.{lt-leb}
+use Rattle.numeral.proofs.Arithmetic.{lt-or-ge}
 use Rattle.rules.specs.Bytes.{bytes}
 use Rattle.rules.specs.TextNumbers.{after}
 use Rattle.rules.proofs.Runs.{without}
@@ -103,13 +104,11 @@ module _ (a b : List ℕ) (h : Unfed a) (k : Unfed b) (m : 200 < length a) (n : 
 
 -- 201 bytes of a line that has not ended do for all of it
 enough : (u s : List ℕ) → Unfed u → outputOf (take 201 u ++ s) ≡ outputOf (u ++ s)
-enough u s h = go (leb (length u) 201) refl
-  where
-    go : (b : Bool) → leb (length u) 201 ≡ b → outputOf (take 201 u ++ s) ≡ outputOf (u ++ s)
-    go true e = ap (λ x. outputOf (x ++ s)) (take-all 201 u (leb-true (length u) 201 e))
-    go false e =
-        let l : 201 < length u = leb-false (length u) 201 e in
-        both-long (take 201 u) u (unfed-take 201 u h) h (omega (arith, length-take-le 201 u (omega arith))) (omega arith) s
+enough u s h =
+    ⊎-elim
+    (λ (l : 201 < length u). both-long (take 201 u) u (unfed-take 201 u h) h (omega (arith, length-take-le 201 u (omega arith))) (omega arith) s)
+    (λ (l : length u ≤ 201). ap (λ x. outputOf (x ++ s)) (take-all 201 u l))
+    (lt-or-ge 201 (length u))
 
 goes-on : (ps : List (List ℕ)) (u : List ℕ) → Unfed u → session (take 201 u) ps ≡ outputOf (u ++ joined ps)
 goes-on [] u h = sym (last-line (take 201 u) (unfed-take 201 u h)) ∙ ap outputOf (sym (append-nil (take 201 u))) ∙ enough u [] h

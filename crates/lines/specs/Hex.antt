@@ -5,12 +5,9 @@ use mathlib.Core.Option.{Option, none, some}
 use mathlib.Core.Bool.{Bool, _&&_, cond}
 use lib.Dec.{leb, eqb}
 use lib.ListN.{length}
-use Rattle.rules.specs.Bytes.{bytes, all, among, upto}
+use Rattle.rules.specs.Bytes.{bytes, all, among, upto, hexDigits}
 
-unfoldable pub hexDigits : List ℕ
-hexDigits = bytes "0123456789ABCDEF"
-
-abbrev pub isHex : ℕ → Bool
+unfoldable pub isHex : ℕ → Bool
 isHex c = among c hexDigits
 
 -- the letters among them
@@ -18,7 +15,7 @@ abbrev pub isLetter : ℕ → Bool
 isLetter c = among c (bytes "ABCDEF")
 
 -- a digit's value is how many stand before it
-abbrev pub hexValue : ℕ → ℕ
+unfoldable pub hexValue : ℕ → ℕ
 hexValue c = length (upto c hexDigits)
 
 -- two digits to a byte

@@ -45,8 +45,11 @@ abbrev pub digitsText : List ℕ → List ℕ
 digitsText = map (code "0" +_)
 
 -- two upper-case hex digits for each byte
+abbrev pub hexDigits : List ℕ
+hexDigits = bytes "0123456789ABCDEF"
+
 abbrev pub hexDigit : ℕ → ℕ
-hexDigit n = getD (bytes "0123456789ABCDEF") n zero
+hexDigit n = getD hexDigits n zero
 
 abbrev pub hexText : List ℕ → List ℕ
 hexText [] = []
