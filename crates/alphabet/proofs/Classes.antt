@@ -1,30 +1,42 @@
--- What the class of a byte says of it.
+-- What the class of a byte says of it. c is the byte, and r the class that was looked up.
 use Prim.Native.Nat.{ℕ}
-use mathlib.Core.Path.{_≡_, refl}
-use mathlib.Core.Bool.{Bool, true, false, cond}
-use native.Mathlib.Omega.{arith}
+use mathlib.Core.Path.{_≡_, refl, ap, _∙_}
+use mathlib.Core.Bool.{Bool, true, false, _&&_, not, cond}
+use borrow.Author.Tests.{eq-eqb, ne-eqb}
+use lib.Dec.{eqb}
 use Rattle.rules.specs.Bytes.{among}
-use Rattle.rules.specs.Characters.{escaped, plain}
+use Rattle.rules.specs.Characters.{escaped, character, plain}
 use Rattle.alphabet.specs.Strings.{classOf}
 
--- the class, by the two tests
-abbrev classIn : Bool → Bool → ℕ
-classIn p e = cond p 1 (cond e 2 0)
+module _ (c r : ℕ) (e : r ≡ classOf c) where
+  plain-is : plain c ≡ eqb r 1
+  unfolding classOf
+  plain-is = rw e (go (character c) (among c escaped))
+    where
+      go : (a b : Bool) → a && not b ≡ eqb (cond a (cond b 2 1) 0) 1
+      go true true = refl
+      go true false = refl
+      go false b = refl
 
--- 1: it stands for itself
-pub plain-class : (c : ℕ) → classOf c ≡ 1 → plain c ≡ true
-unfolding classOf
-plain-class c = go (plain c) (among c escaped)
-  where
-    go : (p e : Bool) → classIn p e ≡ 1 → p ≡ true
-    go true e h = refl
-    go false true h = absurd (omega arith)
-    go false false h = absurd (omega arith)
+  character-is : character c ≡ not (eqb r 0)
+  unfolding classOf
+  character-is = rw e (go (character c) (among c escaped))
+    where
+      go : (a b : Bool) → a ≡ not (eqb (cond a (cond b 2 1) 0) 0)
+      go true true = refl
+      go true false = refl
+      go false b = refl
 
-pub other-class : (c : ℕ) → ¬ (classOf c ≡ 1) → plain c ≡ false
-unfolding classOf
-other-class c = go (plain c) (among c escaped)
-  where
-    go : (p e : Bool) → ¬ (classIn p e ≡ 1) → p ≡ false
-    go true e h = absurd (h refl)
-    go false e h = refl
+  -- class 1: it stands for itself
+  pub plain-class : r ≡ 1 → plain c ≡ true
+  plain-class h = plain-is ∙ eq-eqb r 1 h
+
+  pub other-class : ¬ (r ≡ 1) → plain c ≡ false
+  other-class n = plain-is ∙ ne-eqb r 1 n
+
+  -- class 0: it is no character
+  pub no-character : r ≡ 0 → character c ≡ false
+  no-character h = character-is ∙ ap not (eq-eqb r 0 h)
+
+  pub some-character : ¬ (r ≡ 0) → character c ≡ true
+  some-character n = character-is ∙ ap not (ne-eqb r 0 n)

@@ -20,7 +20,7 @@ use Rattle.rules.proofs.Answers.{Settled}
 use Rattle.rules.proofs.Groups.{nonzero, leading-of, StringIs, string-settled, string-of}
 use Rattle.alphabet.specs.Strings.{countOf}
 
--- Characters and then zeros are counted; no character is a zero.
+-- Groups that are characters and then zeros are counted; no character is a zero.
 all-nonzero : T (all nonzero tableA1)
 unfolding tableA1
 all-nonzero = tt
@@ -60,7 +60,7 @@ zero-behind p z n e = rw (← e, ← add-zero (length p), getD-append-add p (rep
     go zero = refl
     go (suc z) = refl
 
--- One group more: a zero; a character where no zero came before; any other is refused.
+-- One more group: a zero, or a character before which no zero came. Any other group is refused.
 module _ (x : List ℕ) (i n : ℕ) (h : i < length x) (c : Counted x i n) where
   pub next-zero : getD x i 0 ≡ 0 → Counted x (i + 1) n
   next-zero e = record {

@@ -1,4 +1,4 @@
--- The characters that are kept: one by one, and what a caller finds of them.
+-- Storing the characters one by one, and what a caller then finds.
 use Prim.Native.Nat.{ℕ, zero, suc, _+_, _-_, _≤_}
 use mathlib.Core.Path.{_≡_, refl, sym, _∙_, ap}
 use mathlib.Core.List.{List, [], _∷_, _++_}
@@ -20,7 +20,7 @@ sets-cons : (cs l : List ℕ) (x n : ℕ) → sets (x ∷ l) (suc n) cs ≡ x �
 sets-cons [] l x n = refl
 sets-cons (c ∷ cs) l x n = sets-cons cs (set l n c) x (suc n)
 
--- A character in front of those that are kept behind it; and none is kept where the room is full.
+-- A character is stored in front of those behind it; where the room is full, none is stored.
 pub keep-more : (n c : ℕ) (l m z : List ℕ) (o p : Option (List ℕ)) → p ≡ put (some c) o → m ≡ set l n c → Kept o (n + 1) m z → Kept p n l z
 keep-more n c l m z none p e s k = rw e tt
 keep-more n c l m z (some cs) p e s k = rw e (k ∙ rw (s, add-one))
@@ -29,7 +29,7 @@ pub keep-full : (n : ℕ) (l : List ℕ) (o : Option (List ℕ)) → length l �
 keep-full n l none h = tt
 keep-full n l (some cs) h = rw (sets-out cs l n h)
 
--- Kept over zeros, from the first place on, are the first of them and zeros behind.
+-- Characters stored over zeros from place 0 on: the first of them stand there, with zeros behind.
 take-zeros : (k j : ℕ) → k ≤ j → take {A = ℕ} k (replicate j 0) ≡ replicate k 0
 take-zeros zero j h = refl
 take-zeros (suc k) zero h = absurd (omega arith)
@@ -50,7 +50,7 @@ read-wrong none n e f = rw f
 read-wrong (some []) n e f = rw f
 read-wrong (some (c ∷ cs)) n e f = absurd (omega arith)
 
--- What a caller finds: the characters, where they are at most k.
+-- What a caller finds in the first k places, where there are k characters or fewer: the characters, with zeros behind.
 pub first-characters : (cs : List ℕ) (k : ℕ) → length cs ≤ k → k ≤ 20 → take k (take 20 (cs ++ replicate 20 0)) ≡ cs ++ replicate (k - length cs) 0
 first-characters cs k h l = take-take k 20 (cs ++ replicate 20 0) l ∙ go k (k - length cs) (omega arith) (omega arith)
   where

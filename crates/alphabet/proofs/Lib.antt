@@ -1,7 +1,8 @@
--- Laws. A caller may want the ends of Kept (what `read` gives) and of Counts (what `count` gives), Classes, and Tables.
-pub mod Classes
+-- Laws. A caller may want the last ones of Kept (what `read` gives) and of Counts (what `count` gives).
 pub mod Kept
 pub mod Counts
-pub mod Tables
+mod Classes
+mod Tables
 mod Steps
+mod Widths
 mod Writes

@@ -1,4 +1,4 @@
--- The text of one character after the other, written where the last one ends.
+-- Characters written one after the other: the text of each begins where that of the last one ends.
 use Prim.Native.Nat.{ℕ, _+_, _<_, _≤_}
 use mathlib.Core.Path.{_≡_, refl, sym, _∙_, ap}
 use mathlib.Core.Bool.{Bool, true, false}

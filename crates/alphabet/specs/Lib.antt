@@ -1,3 +1,3 @@
--- What the contracts of this crate cite beside the written rules: for callers, Strings; between the readers inside, Readers.
+-- Definitions that the contracts of this crate use beside the written rules. Strings is for callers, Readers for the functions inside.
 pub mod Strings
 pub mod Readers

@@ -1,75 +1,53 @@
-// The characters of table A-1, and string parts: read from a text, written to one, counted among a bank's groups.
+// String parts, whose characters are the 82 of the standard's table A-1: read from a text, written to a text, and counted in the groups
+// of seven bits that a bank holds.
 mod table;
 
+use table::Classes;
 ghost use mathlib.Core.Path.{_≡_};
 ghost use mathlib.Core.List.{[], _∷_};
 ghost use Prim.Native.Nat.{_+_, _*_, _<_, _≤_};
 ghost use lib.ListN.{length, take, drop, set};
 ghost use Rattle.numeral.specs.Numeral.{splice};
 ghost use Rattle.rules.specs.Bytes.{percent};
-ghost use Rattle.rules.specs.Characters.{character, plain, spelling, stringText};
+ghost use Rattle.rules.specs.Characters.{plain, spelling, stringText};
 ghost use Rattle.rules.specs.TextNumbers.{charactersIn};
 ghost use Rattle.rules.specs.BankNumbers.{stringIn};
-ghost use Rattle.alphabet.specs.Strings.{ClassTable, classOf, markedIn, spelledOf, countOf};
-ghost use Rattle.alphabet.specs.Readers.{counted, Kept, escapeIn, foundOf, Width};
+ghost use Rattle.alphabet.specs.Strings.{ClassTable, classOf, spelledOf, countOf};
+ghost use Rattle.alphabet.specs.Readers.{counted, Kept, escapeIn, foundOf, widthIn};
 
-// The table, for those who look up more than one byte: a constant is made anew wherever it is named.
-fn class_table() -> [u8; 256]
+// The class table. It is made once for a string and lent: a constant array is built anew wherever it is named.
+fn class_table() -> Classes
     ensures { λ r. ⌜ ClassTable r ⌝ }
 {
     table::CLASS
 }
 
-// The class of a byte.
-fn class(c: u8, classes: &[u8; 256]) -> u8
+// The class of a byte: `NONE`, `PLAIN` or `ESCAPED`.
+fn class(c: u8, classes: &Classes) -> u8
     requires { ⌜ ClassTable (now classes) ⌝ }
     ensures { λ r. ⌜ r ≡ classOf c ⌝ }
 {
     classes[c as usize]
 }
 
-// Whether the bit of a byte is set: in `first` for those below 64, in `second` for the next 64.
-fn marked(c: u8, first: u64, second: u64) -> bool
-    ensures { λ r. ⌜ r ≡ markedIn first second c ⌝ }
-{
-    if 127 < c {
-        return false;
-    }
-    let low = (first >> (c % 64)) % 2;
-    let high = (second >> (c % 64)) % 2;
-    let bit = if c < 64 { low } else { high };
-    bit == 1
-}
+// The most characters that a scheme holds.
+pub const MOST_CHARACTERS: usize = 20;
 
-// Whether a byte is a character that stands for itself.
-fn is_plain(c: u8) -> bool
-    ensures { λ r. ⌜ r ≡ plain c ⌝ }
-{
-    marked(c, table::PLAIN, table::LETTERS)
-}
-
-// Whether a byte is a character of table A-1.
-fn is_character(c: u8) -> bool
-    ensures { λ r. ⌜ r ≡ character c ⌝ }
-{
-    marked(c, table::CHARACTERS, table::LETTERS)
-}
-
-// What a text spells: the number of its characters, and the first twenty of them, zeros behind; 0 and zeros where its form is
-// wrong, which an empty text's is too. No scheme holds more than twenty; the number goes on, since a wrong form (7) is told before
-// too many characters (8).
+// What a text spells: the number of its characters, and the first twenty of them, with zeros behind. The number is 0 where the text is
+// empty or its form is wrong. Characters past the twentieth are counted too: a wrong form (number 7) comes before too many
+// characters (number 8), so the whole text is read.
 pub struct Spelled {
     pub count: usize,
-    pub characters: [u8; 20],
+    pub characters: [u8; MOST_CHARACTERS],
 }
 
-// The character of an escape, if it is one.
+// The character that an escape stands for, or nothing where it is no escape.
 enum Found {
     Character(u8),
     Nothing,
 }
 
-// The character whose escape has these two digits.
+// The character whose escape has the digits h and l.
 fn character(h: u8, l: u8) -> Found
     ensures { λ r. ⌜ r ≡ foundOf (escapeIn (h ∷ l ∷ [])) ⌝ }
 {
@@ -91,7 +69,7 @@ fn character(h: u8, l: u8) -> Found
     }
 }
 
-// The character whose escape has its two digits at `at`.
+// The character whose escape has its two digits from index `at` on.
 fn character_at(text: &[u8], at: usize) -> Found
     requires { ⌜ at ≤ length (now text) ⌝ }
     ensures { λ r. ⌜ r ≡ foundOf (escapeIn (drop at (now (text .entry)))) ⌝ }
@@ -102,13 +80,13 @@ fn character_at(text: &[u8], at: usize) -> Found
     character(text[at], text[at + 1])
 }
 
-// How many bytes the character at `at` takes, 0 where none begins there.
-fn width(text: &[u8], at: usize, classes: &[u8; 256]) -> usize
+// How many bytes the character at index `at` takes: one, or three for an escape; 0 where no character begins there.
+fn width(text: &[u8], at: usize, classes: &Classes) -> usize
     requires { ⌜ (at < length (now text)) × ClassTable (now classes) ⌝ }
-    ensures { λ r. ⌜ Width (now (text .entry)) at r ⌝ }
+    ensures { λ r. ⌜ r ≡ widthIn (drop at (now (text .entry))) ⌝ }
 {
     let b = text[at];
-    if class(b, classes) == 1 {
+    if class(b, classes) == table::PLAIN {
         return 1;
     }
     if b != b'%' {
@@ -120,9 +98,9 @@ fn width(text: &[u8], at: usize, classes: &[u8; 256]) -> usize
     3
 }
 
-// Counts the characters from `at` on, where n are counted already, and keeps none. It is a loop, and `escape` goes on here
-// once the room is full: so the two readers call each other no more often than there is room, however long the text is.
-fn rest(text: &[u8], at: usize, n: usize, classes: &[u8; 256]) -> usize
+// Counts the characters from index `at` on, after n that are counted already, and keeps none of them. `escape` goes on here once the room
+// is full. This is a loop, so the two readers below call each other no more often than there is room, however long the text is.
+fn rest(text: &[u8], at: usize, n: usize, classes: &Classes) -> usize
     requires { ⌜ (at ≤ length (now text)) × (n ≤ at) × ClassTable (now classes) ⌝ }
     ensures { λ r. ⌜ r ≡ counted n (charactersIn (drop at (now (text .entry)))) ⌝ }
 {
@@ -139,7 +117,7 @@ fn rest(text: &[u8], at: usize, n: usize, classes: &[u8; 256]) -> usize
     m
 }
 
-// Keeps a character at its place, where there is room.
+// Stores c as the character at place n, if there is room.
 fn keep(kept: &mut [u8], n: usize, c: u8)
     ensures { λ _. ⌜ now (kept .exit) ≡ set (now (kept .entry)) n c ⌝ }
 {
@@ -148,9 +126,10 @@ fn keep(kept: &mut [u8], n: usize, c: u8)
     }
 }
 
-// "A plain character and an escape may follow each other freely" (document 01): two readers that call each other.
-// This one reads characters that stand for themselves, and goes on with `escape` at a percent sign.
-fn plain_run(text: &[u8], at: usize, n: usize, kept: &mut [u8], classes: &[u8; 256]) -> usize
+// "A plain character and an escape may follow each other freely" (document 01): so two readers call each other.
+// This one reads characters that stand for themselves, and goes on with `escape` at a percent sign. Both return the number of
+// characters, counting the n before, or 0 where the form is wrong; and both store the characters from place n on.
+fn plain_run(text: &[u8], at: usize, n: usize, kept: &mut [u8], classes: &Classes) -> usize
     requires { ⌜ (at ≤ length (now text)) × (n ≤ at) × ClassTable (now classes) ⌝ }
     ensures { λ r. ⌜ r ≡ counted n (charactersIn (drop at (now (text .entry)))) ⌝ }
     ensures { λ _. ⌜ Kept (charactersIn (drop at (now (text .entry)))) n (now (kept .entry)) (now (kept .exit)) ⌝ }
@@ -159,7 +138,7 @@ fn plain_run(text: &[u8], at: usize, n: usize, kept: &mut [u8], classes: &[u8; 2
     let mut m = n;
     while i < text.len() {
         let b = text[i];
-        if class(b, classes) == 1 {
+        if class(b, classes) == table::PLAIN {
             keep(kept, m, b);
             m += 1;
             i += 1;
@@ -173,7 +152,7 @@ fn plain_run(text: &[u8], at: usize, n: usize, kept: &mut [u8], classes: &[u8; 2
 }
 
 // Reads an escape whose percent sign stands before `at`, and goes on with `plain_run`.
-fn escape(text: &[u8], at: usize, n: usize, kept: &mut [u8], classes: &[u8; 256]) -> usize
+fn escape(text: &[u8], at: usize, n: usize, kept: &mut [u8], classes: &Classes) -> usize
     requires { ⌜ (at ≤ length (now text)) × (n < at) × ClassTable (now classes) ⌝ }
     ensures { λ r. ⌜ r ≡ counted n (charactersIn (percent ∷ drop at (now (text .entry)))) ⌝ }
     ensures { λ _. ⌜ Kept (charactersIn (percent ∷ drop at (now (text .entry)))) n (now (kept .entry)) (now (kept .exit)) ⌝ }
@@ -188,30 +167,30 @@ fn escape(text: &[u8], at: usize, n: usize, kept: &mut [u8], classes: &[u8; 256]
     rest(text, at + 2, n + 1, classes)
 }
 
-// Reads the string part that stands from `at` on to the end of the text.
+// Reads the string part that goes from index `at` to the end of the text.
 pub fn read(text: &[u8], at: usize) -> Spelled
     requires { ⌜ at ≤ length (now text) ⌝ }
     ensures { λ r. ⌜ r ≡ spelledOf (charactersIn (drop at (now (text .entry)))) ⌝ }
 {
-    let mut characters = [0u8; 20];
+    let mut characters = [0u8; MOST_CHARACTERS];
     let classes = class_table();
     let count = plain_run(text, at, 0, &mut characters, &classes);
     if count == 0 {
         return Spelled {
             count,
-            characters: [0u8; 20],
+            characters: [0u8; MOST_CHARACTERS],
         };
     }
     Spelled { count, characters }
 }
 
-// Writes the text of one character from index `at` on, and returns the index after it.
-fn put(out: &mut [u8], at: usize, c: u8) -> usize
-    requires { ⌜ at + 3 ≤ length (now out) ⌝ }
+// Writes one character, as itself or as its escape, from index `at` on, and returns the index after it.
+fn put(out: &mut [u8], at: usize, c: u8, classes: &Classes) -> usize
+    requires { ⌜ (at + 3 ≤ length (now out)) × ClassTable (now classes) ⌝ }
     ensures { λ r. ⌜ r ≡ at + length (spelling (plain c) c) ⌝ }
     ensures { λ _. ⌜ now (out .exit) ≡ splice (now (out .entry)) at (spelling (plain c) c) ⌝ }
 {
-    if is_plain(c) {
+    if class(c, classes) == table::PLAIN {
         out[at] = c;
         return at + 1;
     }
@@ -227,20 +206,23 @@ pub fn write(characters: &[u8], n: usize, out: &mut [u8], at: usize) -> usize
     ensures { λ r. ⌜ r ≡ at + length (stringText (take n (now (characters .entry)))) ⌝ }
     ensures { λ _. ⌜ now (out .exit) ≡ splice (now (out .entry)) at (stringText (take n (now (characters .entry)))) ⌝ }
 {
+    let classes = class_table();
     let mut p = at;
     let mut j = 0;
     while j < n {
-        p = put(out, p, characters[j]);
+        p = put(out, p, characters[j], &classes);
         j += 1;
     }
     p
 }
 
-// The number of characters in the first k groups of a string; 0 where rule 19 refuses them.
+// The number of characters in the first k groups of a string, each a byte here. It is 0 where number 19 refuses them: the first group
+// is zero, a group after a zero is not, or a group is no character.
 pub fn count(groups: &[u8], k: usize) -> usize
     requires { ⌜ k ≤ length (now groups) ⌝ }
     ensures { λ r. ⌜ r ≡ countOf (stringIn (take k (now (groups .entry)))) ⌝ }
 {
+    let classes = class_table();
     let mut n = 0;
     let mut i = 0;
     while i < k {
@@ -249,7 +231,7 @@ pub fn count(groups: &[u8], k: usize) -> usize
             if n < i {
                 return 0;
             }
-            if !is_character(g) {
+            if class(g, &classes) == table::NONE {
                 return 0;
             }
             n = i + 1;

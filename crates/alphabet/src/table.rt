@@ -1,268 +1,272 @@
-// An entry for each byte value (document 01, "The text of a tag").
-// 0: no character of table A-1; 1: a character that stands for itself; 2: one that is escaped.
-pub const CLASS: [u8; 256] = [
-    0,
-    0,
-    0,
-    0,
-    0,
-    0,
-    0,
-    0,
-    0,
-    0,
-    0,
-    0,
-    0,
-    0,
-    0,
-    0,
-    0,
-    0,
-    0,
-    0,
-    0,
-    0,
-    0,
-    0,
-    0,
-    0,
-    0,
-    0,
-    0,
-    0,
-    0,
-    0,
-    0,
-    1, // !
-    2, // "
-    0,
-    0,
-    2, // %
-    2, // &
-    1, // '
-    1, // (
-    1, // )
-    1, // *
-    1, // +
-    1, // ,
-    1, // -
-    1, // .
-    2, // /
-    1, // 0
-    1, // 1
-    1, // 2
-    1, // 3
-    1, // 4
-    1, // 5
-    1, // 6
-    1, // 7
-    1, // 8
-    1, // 9
-    1, // :
-    1, // ;
-    2, // <
-    1, // =
-    2, // >
-    2, // ?
-    0,
-    1, // A
-    1, // B
-    1, // C
-    1, // D
-    1, // E
-    1, // F
-    1, // G
-    1, // H
-    1, // I
-    1, // J
-    1, // K
-    1, // L
-    1, // M
-    1, // N
-    1, // O
-    1, // P
-    1, // Q
-    1, // R
-    1, // S
-    1, // T
-    1, // U
-    1, // V
-    1, // W
-    1, // X
-    1, // Y
-    1, // Z
-    0,
-    0,
-    0,
-    0,
-    1, // _
-    0,
-    1, // a
-    1, // b
-    1, // c
-    1, // d
-    1, // e
-    1, // f
-    1, // g
-    1, // h
-    1, // i
-    1, // j
-    1, // k
-    1, // l
-    1, // m
-    1, // n
-    1, // o
-    1, // p
-    1, // q
-    1, // r
-    1, // s
-    1, // t
-    1, // u
-    1, // v
-    1, // w
-    1, // x
-    1, // y
-    1, // z
-    0,
-    0,
-    0,
-    0,
-    0,
-    0,
-    0,
-    0,
-    0,
-    0,
-    0,
-    0,
-    0,
-    0,
-    0,
-    0,
-    0,
-    0,
-    0,
-    0,
-    0,
-    0,
-    0,
-    0,
-    0,
-    0,
-    0,
-    0,
-    0,
-    0,
-    0,
-    0,
-    0,
-    0,
-    0,
-    0,
-    0,
-    0,
-    0,
-    0,
-    0,
-    0,
-    0,
-    0,
-    0,
-    0,
-    0,
-    0,
-    0,
-    0,
-    0,
-    0,
-    0,
-    0,
-    0,
-    0,
-    0,
-    0,
-    0,
-    0,
-    0,
-    0,
-    0,
-    0,
-    0,
-    0,
-    0,
-    0,
-    0,
-    0,
-    0,
-    0,
-    0,
-    0,
-    0,
-    0,
-    0,
-    0,
-    0,
-    0,
-    0,
-    0,
-    0,
-    0,
-    0,
-    0,
-    0,
-    0,
-    0,
-    0,
-    0,
-    0,
-    0,
-    0,
-    0,
-    0,
-    0,
-    0,
-    0,
-    0,
-    0,
-    0,
-    0,
-    0,
-    0,
-    0,
-    0,
-    0,
-    0,
-    0,
-    0,
-    0,
-    0,
-    0,
-    0,
-    0,
-    0,
-    0,
-    0,
-    0,
-    0,
-    0,
-    0,
-    0,
-    0,
-    0,
-    0,
-    0,
-    0,
-    0,
-    0,
-    0,
-    0,
+// The class of each byte: whether it is a character, and how a text spells it (document 01, "The text of a tag": String).
+
+// No character of table A-1.
+pub const NONE: u8 = 0;
+
+// A character that stands for itself.
+pub const PLAIN: u8 = 1;
+
+// A character that is escaped.
+pub const ESCAPED: u8 = 2;
+
+// An entry for each byte value.
+pub type Classes = [u8; 256];
+
+pub const CLASS: Classes = [
+    NONE,
+    NONE,
+    NONE,
+    NONE,
+    NONE,
+    NONE,
+    NONE,
+    NONE,
+    NONE,
+    NONE,
+    NONE,
+    NONE,
+    NONE,
+    NONE,
+    NONE,
+    NONE,
+    NONE,
+    NONE,
+    NONE,
+    NONE,
+    NONE,
+    NONE,
+    NONE,
+    NONE,
+    NONE,
+    NONE,
+    NONE,
+    NONE,
+    NONE,
+    NONE,
+    NONE,
+    NONE,
+    NONE,
+    PLAIN, // !
+    ESCAPED, // "
+    NONE,
+    NONE,
+    ESCAPED, // %
+    ESCAPED, // &
+    PLAIN, // '
+    PLAIN, // (
+    PLAIN, // )
+    PLAIN, // *
+    PLAIN, // +
+    PLAIN, // ,
+    PLAIN, // -
+    PLAIN, // .
+    ESCAPED, // /
+    PLAIN, // 0
+    PLAIN, // 1
+    PLAIN, // 2
+    PLAIN, // 3
+    PLAIN, // 4
+    PLAIN, // 5
+    PLAIN, // 6
+    PLAIN, // 7
+    PLAIN, // 8
+    PLAIN, // 9
+    PLAIN, // :
+    PLAIN, // ;
+    ESCAPED, // <
+    PLAIN, // =
+    ESCAPED, // >
+    ESCAPED, // ?
+    NONE,
+    PLAIN, // A
+    PLAIN, // B
+    PLAIN, // C
+    PLAIN, // D
+    PLAIN, // E
+    PLAIN, // F
+    PLAIN, // G
+    PLAIN, // H
+    PLAIN, // I
+    PLAIN, // J
+    PLAIN, // K
+    PLAIN, // L
+    PLAIN, // M
+    PLAIN, // N
+    PLAIN, // O
+    PLAIN, // P
+    PLAIN, // Q
+    PLAIN, // R
+    PLAIN, // S
+    PLAIN, // T
+    PLAIN, // U
+    PLAIN, // V
+    PLAIN, // W
+    PLAIN, // X
+    PLAIN, // Y
+    PLAIN, // Z
+    NONE,
+    NONE,
+    NONE,
+    NONE,
+    PLAIN, // _
+    NONE,
+    PLAIN, // a
+    PLAIN, // b
+    PLAIN, // c
+    PLAIN, // d
+    PLAIN, // e
+    PLAIN, // f
+    PLAIN, // g
+    PLAIN, // h
+    PLAIN, // i
+    PLAIN, // j
+    PLAIN, // k
+    PLAIN, // l
+    PLAIN, // m
+    PLAIN, // n
+    PLAIN, // o
+    PLAIN, // p
+    PLAIN, // q
+    PLAIN, // r
+    PLAIN, // s
+    PLAIN, // t
+    PLAIN, // u
+    PLAIN, // v
+    PLAIN, // w
+    PLAIN, // x
+    PLAIN, // y
+    PLAIN, // z
+    NONE,
+    NONE,
+    NONE,
+    NONE,
+    NONE,
+    NONE,
+    NONE,
+    NONE,
+    NONE,
+    NONE,
+    NONE,
+    NONE,
+    NONE,
+    NONE,
+    NONE,
+    NONE,
+    NONE,
+    NONE,
+    NONE,
+    NONE,
+    NONE,
+    NONE,
+    NONE,
+    NONE,
+    NONE,
+    NONE,
+    NONE,
+    NONE,
+    NONE,
+    NONE,
+    NONE,
+    NONE,
+    NONE,
+    NONE,
+    NONE,
+    NONE,
+    NONE,
+    NONE,
+    NONE,
+    NONE,
+    NONE,
+    NONE,
+    NONE,
+    NONE,
+    NONE,
+    NONE,
+    NONE,
+    NONE,
+    NONE,
+    NONE,
+    NONE,
+    NONE,
+    NONE,
+    NONE,
+    NONE,
+    NONE,
+    NONE,
+    NONE,
+    NONE,
+    NONE,
+    NONE,
+    NONE,
+    NONE,
+    NONE,
+    NONE,
+    NONE,
+    NONE,
+    NONE,
+    NONE,
+    NONE,
+    NONE,
+    NONE,
+    NONE,
+    NONE,
+    NONE,
+    NONE,
+    NONE,
+    NONE,
+    NONE,
+    NONE,
+    NONE,
+    NONE,
+    NONE,
+    NONE,
+    NONE,
+    NONE,
+    NONE,
+    NONE,
+    NONE,
+    NONE,
+    NONE,
+    NONE,
+    NONE,
+    NONE,
+    NONE,
+    NONE,
+    NONE,
+    NONE,
+    NONE,
+    NONE,
+    NONE,
+    NONE,
+    NONE,
+    NONE,
+    NONE,
+    NONE,
+    NONE,
+    NONE,
+    NONE,
+    NONE,
+    NONE,
+    NONE,
+    NONE,
+    NONE,
+    NONE,
+    NONE,
+    NONE,
+    NONE,
+    NONE,
+    NONE,
+    NONE,
+    NONE,
+    NONE,
+    NONE,
+    NONE,
+    NONE,
+    NONE,
+    NONE,
+    NONE,
+    NONE,
+    NONE,
+    NONE,
+    NONE,
 ];
-
-// The same as bits, for a single look that is not worth a table: bit c of the first word is that of byte c, bit c of the second that of
-// byte 64 + c.
-pub const PLAIN: u64 = 0x2FFF_7F82_0000_0000;
-
-pub const CHARACTERS: u64 = 0xFFFF_FFE6_0000_0000;
-
-pub const LETTERS: u64 = 0x07FF_FFFE_87FF_FFFE;

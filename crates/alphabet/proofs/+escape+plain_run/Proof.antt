@@ -1,6 +1,6 @@
 -- The two readers that call each other. Each one's measure is what is left of the text.
 -- The loop's invariant: what is counted and kept from i on, with m characters before, is what is counted and kept from `at` on.
-use mathlib.Core.Path.{_≡_, refl, sym, _∙_}
+use mathlib.Core.Path.{_≡_, refl, _∙_}
 use mathlib.Core.List.{List, _∷_}
 use mathlib.Core.Option.{some}
 use native.Mathlib.Omega.{arith}
@@ -11,9 +11,9 @@ use borrow.Fn.PlainCycle.{Measures, is, falls, and}
 use lib.ListN.{length, drop, length-set}
 use Rattle.rules.specs.Bytes.{percent}
 use Rattle.rules.specs.TextNumbers.{put, charactersIn}
-use Rattle.alphabet.specs.Readers.{counted, Kept}
+use Rattle.alphabet.specs.Readers.{counted, Kept, escapeIn}
 use Rattle.alphabet.proofs.Classes.{plain-class, other-class}
-use Rattle.alphabet.proofs.Steps.{at-plain, at-percent, at-other, at-end, at-escape, escape-within, no-escape, count-end, count-more}
+use Rattle.alphabet.proofs.Steps.{at-plain, at-percent, at-other, at-end, escape-some, escape-none, at-escape, escape-within, no-escape, count-end, count-more}
 use Rattle.alphabet.proofs.Kept.{keep-more, keep-full}
 use Rattle.alphabet.proofs.escape.Reads as escape
 use Rattle.alphabet.proofs.escape.Kinds as escape-kinds
@@ -72,20 +72,21 @@ escape-returns : (t : ℕ) → escape-lts.Need-returns (escape-calls t) (escape-
 escape-returns t c =
     let called = c .before .before in
     let a = called .before .before .before .args in
-    rw (no-escape (a .text .now) (a .at) _ (called .character-at .ensures) (c .enum-told .given .1)) (refl, tt)
+    rw (no-escape (a .text .now) (a .at) (escape-none (escapeIn (drop (a .at) (a .text .now))) _ (called .character-at .ensures) (c .enum-told .given .1))) (refl, tt)
 
 -- an escape: the text goes on behind its two digits
 module _ (t : ℕ) (c : escape-lts.After-c (escape-calls t) (escape-at t) escape.Post) where
-  within : let a = c .before .before .before .before .before .args in a .at + 2 ≤ length (a .text .now)
-  within =
+  found : let a = c .before .before .before .before .before .args in escapeIn (drop (a .at) (a .text .now)) ≡ some (c .c .given .0 .0)
+  found =
       let a = c .before .before .before .before .before .args in
-      escape-within (a .text .now) (a .at) _ (c .before .before .character-at .ensures) _ (search needs) (c .c .given .1)
+      escape-some (escapeIn (drop (a .at) (a .text .now))) _ _ (c .before .before .character-at .ensures) (c .c .given .1)
+
+  within : let a = c .before .before .before .before .before .args in a .at + 2 ≤ length (a .text .now)
+  within = let a = c .before .before .before .before .before .args in escape-within (a .text .now) (a .at) _ (search needs) found
 
   goes-on : let a = c .before .before .before .before .before .args in
       charactersIn (percent ∷ drop (a .at) (a .text .now)) ≡ put (some (c .c .given .0 .0)) (charactersIn (drop (a .at + 2) (a .text .now)))
-  goes-on =
-      let a = c .before .before .before .before .before .args in
-      at-escape (a .text .now) (a .at) _ (c .before .before .character-at .ensures) _ (c .c .given .1)
+  goes-on = let a = c .before .before .before .before .before .args in at-escape (a .text .now) (a .at) _ found
 
 escape-plain-run-requires : (t : ℕ) → escape-lts.Need-plain-run-requires (escape-calls t) (escape-at t) escape.Post
 escape-plain-run-requires t c κs =
@@ -129,7 +130,7 @@ plain-run-loop-again t c =
     let v = turn .before .loop in
     let x = turn .before .before .before .before .args .text .now in
     let o = charactersIn (drop (v .i + 1) x) in
-    let e = at-plain x (v .i) (turn .loop-test .taken) (plain-class _ (sym (test .before .class .ensures) ∙ test .if1 .taken)) in (
+    let e = at-plain x (v .i) (turn .loop-test .taken) (plain-class _ _ (test .before .class .ensures) (test .if1 .taken)) in (
       search needs,
       search needs,
       search needs,
@@ -155,7 +156,7 @@ plain-run-returns-2 t c =
     let turn = classed .before .before in
     let v = turn .before .loop in
     let x = turn .before .before .before .before .args .text .now in
-    let e = at-other x (v .i) (turn .loop-test .taken) (other-class _ λ q. c .before .if1 .left (classed .class .ensures ∙ q)) (c .if2 .left) in
+    let e = at-other x (v .i) (turn .loop-test .taken) (other-class _ _ (classed .class .ensures) (c .before .if1 .left)) (c .if2 .left) in
     (rw e at (v .inv .4), v .inv .5 _ (rw e tt))
 
 plain-run-returns-3 : (t : ℕ) → plain-run-lts.Need-returns-3 (plain-run-calls t) (plain-run-at t) plain-run.Post plain-run-Inv-loop plain-run-μ-loop

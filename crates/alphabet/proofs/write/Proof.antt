@@ -12,13 +12,13 @@ use Rattle.alphabet.proofs.write.Statement.{statement}
 use Rattle.alphabet.proofs.write.Tie as tie
 
 abbrev Inv-loop : tie.InvT-loop
-Inv-loop characters n out₀ at p₀ j₀ out p j =
+Inv-loop characters n out₀ at classes p₀ j₀ out p j =
     (j ≤ n) × (p ≤ at + 3 * j) × (length out ≡ length out₀)
     × (p ≡ at + length (stringText (take j characters)))
     × (out ≡ splice out₀ at (stringText (take j characters)))
 
 abbrev μ-loop : tie.MeasureT-loop
-μ-loop characters n out₀ at p₀ j₀ out p j = n - j
+μ-loop characters n out₀ at classes p₀ j₀ out p j = n - j
 
 loop-holds : tie.Need-loop-holds Inv-loop μ-loop
 loop-holds c = (search needs, search needs, search needs, search needs, rw splice-nil)
@@ -26,9 +26,9 @@ loop-holds c = (search needs, search needs, search needs, search needs, rw splic
 loop-again : tie.Need-loop-again Inv-loop μ-loop
 loop-again c =
     let put = c .before .before .put in
-    let loop = c .before .before .before .before .before .before in
+    let loop = c .before .before .before .before .before .before .before in
     let v = loop .loop in
-    let a = loop .before .before .before .args in
+    let a = loop .before .before .before .before .args in
     let x = a .characters .now in
     let h : v .j < length x = omega arith in (
       search needs,
@@ -41,7 +41,7 @@ loop-again c =
 returns : tie.Need-returns Inv-loop μ-loop
 returns c =
     let v = c .before .loop in
-    let e : v .j ≡ c .before .before .before .before .args .n = omega arith in
+    let e : v .j ≡ c .before .before .before .before .before .args .n = omega arith in
     rw (← e) (v .inv .3, v .inv .4)
 
 pub write-spec : {M : Type 1} → statement M
@@ -50,6 +50,7 @@ write-spec =
     (tie.spec
     Inv-loop
     μ-loop
+    (λ c κs. search needs)
     loop-holds
     (λ c. search needs)
     (λ c κs. search needs)
