@@ -1,4 +1,4 @@
--- A test of all bytes without an early end: the largest answer, 0 or 1, is that some byte fails it.
+-- A test of all bytes without an early end. A byte gives 0 if it passes the test and 1 if not; the largest of these tells whether one fails.
 use Prim.Native.Nat.{ℕ, _+_, _≤_, _<_}
 use mathlib.Core.Path.{_≡_, refl, ap, _∙_}
 use mathlib.Core.List.{List}
@@ -21,7 +21,7 @@ worse : (n : ℕ) (x r : Bool) → n < wrongOf x → eqb n 0 && (x && r) ≡ eqb
 worse n true r h = absurd (omega arith)
 worse n false r h = let e : n ≡ 0 = omega arith in rw e
 
--- g is what is asked, n the largest answer up to place i, and w the answer there
+-- g is the answer for all bytes, n the largest answer before place i, and w the answer at i
 module _ (test : ℕ → Bool) (t : List ℕ) (g : Bool) (i n w : ℕ) (h : i < length t) (e : g ≡ eqb n 0 && all test (drop i t)) (is : w ≡ wrongOf (test (getD t i 0))) where
   next : g ≡ eqb n 0 && (test (getD t i 0) && all test (drop (i + 1) t))
   next = e ∙ ap (λ r. eqb n 0 && all test r) (drop-next t i h)

@@ -1,7 +1,8 @@
--- The laws of digits in texts.
+-- Laws of pieces of texts.
 pub mod Texts
 pub mod Runs
 pub mod Parts
 pub mod Copies
 pub mod Pairs
 pub mod Alls
+pub mod Starts

@@ -1,14 +1,19 @@
--- The two digits of a byte as one number: one test over the 256 bytes, which the checker computes.
+-- The two hexadecimal digits of a byte as one number. One test over the 256 bytes, which the checker computes, proves the sum right.
 use Prim.Native.Nat.{ℕ, _+_, _*_, _/_, _%_, _≤_, _<_}
 use mathlib.Core.Path.{_≡_}
 use mathlib.Core.Bool.{Bool, _&&_}
+use mathlib.Core.List.{List}
+use native.Mathlib.Numerals.{add-one}
 use native.Mathlib.Omega.{arith}
 use lib.Bits.{bitAnd}
+use lib.ListN.{length, take, getD, set}
 use lib.Dec.{T, eqb, eqb→eq, leb, leb→le, ltb, ltb→lt}
-use Rattle.rules.specs.Bytes.{hexDigit}
+use Rattle.numeral.specs.Numeral.{splice}
+use Rattle.rules.specs.Bytes.{hexDigit, hexText}
 use Rattle.rules.proofs.Tests.{both, below, below-is}
+use Rattle.digits.proofs.Texts.{put-byte}
 
--- the two halves, each in a byte, and in which of them a letter stands
+-- the two halves of a byte, each in a byte of its own; and a 1 in each byte whose half has a letter for its digit
 abbrev pub halves : ℕ → ℕ
 halves x = x / 16 + x % 16 * 256
 
@@ -31,12 +36,14 @@ module _ (x : ℕ) (h : x < 256) where
   unfolding right
   few-letters = leb→le _ _ (both (eqb (halves x + 0x3030 + letters x * 7) (hexDigit (x / 16) + 256 * hexDigit (x % 16))) (leb (letters x) 0x101) (below-is right 256 all-right x h) .1)
 
-pub digit-byte : (d : ℕ) → d < 16 → hexDigit d < 256
+digit-byte : (d : ℕ) → d < 16 → hexDigit d < 256
 digit-byte d h = ltb→lt (hexDigit d) 256 (below-is (λ n. ltb (hexDigit n) 256) 16 tt d h)
 
--- what stands in the low byte, and in the high one
-pub low-byte : (a b : ℕ) → a < 256 → (a + 256 * b) % 256 ≡ a
-low-byte a b h = omega arith
-
-pub high-byte : (a b : ℕ) → a < 256 → (a + 256 * b) / 256 ≡ b
-high-byte a b h = omega arith
+-- the first i bytes of xs are written, and q is the number of the next one's digits: its low byte is stored, and then its high byte
+pub put-pair : (s xs o : List ℕ) (at i p q : ℕ) → o ≡ splice s at (hexText (take i xs)) → i < length xs → p ≡ at + 2 * i → at + 2 * length xs ≤ length s → getD xs i 0 < 256
+    → q ≡ hexDigit (getD xs i 0 / 16) + 256 * hexDigit (getD xs i 0 % 16) → set (set o p (q % 256)) (p + 1) (q / 256) ≡ splice s at (hexText (take (i + 1) xs))
+put-pair s xs o at i p q e h m k small pair =
+    let first : hexDigit (getD xs i 0 / 16) < 256 = digit-byte (getD xs i 0 / 16) (omega arith) in
+    let low : q % 256 ≡ hexDigit (getD xs i 0 / 16) = omega arith in
+    let high : q / 256 ≡ hexDigit (getD xs i 0 % 16) = omega arith in
+    rw (low, high, e, add-one i) (put-byte s xs at i p h m k)

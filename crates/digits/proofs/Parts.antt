@@ -1,4 +1,4 @@
--- A run of digits and the next dot: the run is the part up to it exactly if the dot follows the run.
+-- A part of digits ends at the next dot. A run of digits is such a part exactly if a dot follows the run.
 use Prim.Native.Nat.{ℕ, zero, suc, _+_, _-_, _*_, _^_, _≤_, _<_}
 use Prim.Native.Char.{code}
 use mathlib.Core.Path.{_≡_, refl, ap, ap₂, _∙_}
@@ -23,7 +23,7 @@ use Rattle.digits.specs.Digits.{leadingDigits}
 use Rattle.digits.proofs.Texts.{length-text}
 use Rattle.digits.proofs.Runs.{leading, run-starts, run-symbols, rest-digits, drop-next}
 
--- a digit's character
+-- the character of the digit d
 character-is : (d : ℕ) → d < 10 → (isDigit (code "0" + d) ≡ true) × ((code "0" + d) - code "0" ≡ d)
 character-is d h =
     let low : code "0" ≤ code "0" + d = omega arith in
@@ -76,7 +76,7 @@ module _ (n : ℕ) (t : List ℕ) where
       absurd (no-dot u (ap₂ drop (ap length g) f ∙ drop-at (digitsText es) (dot ∷ u) (length es) (length-text es))))
       (lt-or-ge n (length es))
 
--- The same by places: the run from `at` on ends before the place `end`.
+-- The same by places: the run begins at index `at`, and `end` is the index after it.
 module _ (n : ℕ) (text : List ℕ) (at end : ℕ) (place : end ≡ at + length (leadingDigits n (drop at text))) where
   pub behind-run : drop (length (leadingDigits n (drop at text))) (drop at text) ≡ drop end text
   behind-run = drop-drop (length (leadingDigits n (drop at text))) at text ∙ rw place

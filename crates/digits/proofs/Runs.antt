@@ -20,7 +20,7 @@ use Rattle.rules.proofs.Tests.{both}
 use Rattle.rules.proofs.Decimals.{digits-all}
 use Rattle.digits.specs.Digits.{leadingDigits}
 
--- a run of at most n digits stops at the start of t: it has them all, the text ends, or another character stands there
+-- a run that may have n more digits stops where t begins: n is 0, the text ends, or its first byte is no digit
 pub data Stop : ℕ → List ℕ → Type 0 where
   full : {t : List ℕ} → Stop 0 t
   ended : {n : ℕ} → Stop n []
@@ -78,7 +78,7 @@ run-ends (stop ended) l e = let z : _≡_ {A = ℕ} 0 1 = cc in absurd (omega ar
 run-ends (stop (other f)) l e = cc
 run-ends (more f r) l e = run-ends r (omega arith) e
 
--- the same by places: it goes on at a digit, and stops at anything else
+-- the same by places: the run goes on at a digit, and stops at any other byte
 pub run-goes : {n : ℕ} {t ds : List ℕ} → Leading n t ds → (i : ℕ) → i < n → i ≤ length ds → i < length t → isDigit (getD t i 0) ≡ true
     → (i < length ds) × (getD ds i 0 ≡ getD t i 0 - code "0")
 run-goes (stop s) (suc i) k l m e = absurd (omega arith)
@@ -110,7 +110,7 @@ digits-some t h = digits-in t ∙ rw h
 pub digits-none : (t : List ℕ) → all isDigit t ≡ false → digitsIn t ≡ none
 digits-none t h = digits-in t ∙ rw h
 
--- whether they are all digits is settled behind the run
+-- whether all bytes are digits is decided by those behind the run
 pub rest-digits : {n : ℕ} {t ds : List ℕ} → Leading n t ds → all isDigit t ≡ all isDigit (drop (length ds) t)
 rest-digits (stop s) = refl
 rest-digits (more e r) = rw e (rest-digits r)
@@ -136,15 +136,15 @@ run-whole (stop {t = []} s) l = refl
 run-whole (stop {t = x ∷ t} s) l = absurd (omega arith)
 run-whole (more e r) l = rw (e, run-whole r (omega arith))
 
--- it is followed by another character
+-- the run is followed by a byte that is no digit
 pub run-breaks : {n x : ℕ} {t ds u : List ℕ} → Leading n t ds → length ds < n → drop (length ds) t ≡ x ∷ u → digitsIn t ≡ none
 run-breaks {t = t} r l e = digits-none t (rest-digits r ∙ rw (e, run-ends r l e))
 
--- a text from a place on
+-- a text from index i on: the byte there, and the rest
 pub drop-next : (t : List ℕ) (i : ℕ) → i < length t → drop i t ≡ getD t i 0 ∷ drop (i + 1) t
 drop-next t i h = rw add-one (drop-cons t i 0 h)
 
--- Reading it digit by digit: i digits of the run are passed, and v is their value.
+-- Reading the run digit by digit: i digits are passed, and v is their value.
 pub record Passed (n : ℕ) (t : List ℕ) (i v : ℕ) : Type 0 where
   pub within : i ≤ length (leadingDigits n t)
   pub number : v ≡ value 10 (take i (leadingDigits n t))

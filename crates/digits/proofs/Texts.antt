@@ -1,4 +1,4 @@
--- Digits written one after the other: the text so far, and one more.
+-- Digits written one by one: what stands there after one more.
 use mathlib.Core.Path.{_≡_, refl, sym, ap, _∙_}
 use Prim.Native.Nat.{ℕ, suc, _+_, _-_, _*_, _/_, _%_, _≤_, _<_}
 use Prim.Native.Char.{code}
@@ -7,6 +7,7 @@ use mathlib.Core.List.{List, [], _∷_, _++_, append-assoc, map-append}
 use mathlib.Core.Bool.{cond}
 use lib.ListN.{length, take, getD, set, length-append, length-map}
 use lib.Seq.{take-suc, length-take-le}
+use borrow.Author.Tests.{lt-ltb, le-ltb}
 use lib.Dec.{lit<, ltb, eqb, eqb→eq}
 use Rattle.numeral.specs.Numeral.{numeral, size, shortest, splice}
 use Rattle.numeral.proofs.Values.{length-numeral, numeral-snoc}
@@ -33,22 +34,34 @@ module _ (s : List ℕ) (at v : ℕ) where
   put-large h k =
       rw (shortest-large 10 (lit< tt) v h) (put-last s at (shortest 10 (v / 10)) (v % 10) (size 10 (v / 10)) (length-shortest 10 (lit< tt) (v / 10)) k)
 
--- a number's last digit first, and the digits before it afterwards
-pub put-digit : (s : List ℕ) (at v n : ℕ) → at + n < length s
+-- the last digit of v is stored, and then the n digits before it
+put-digit : (s : List ℕ) (at v n : ℕ) → at + n < length s
     → splice (set s (at + n) (code "0" + v % 10)) at (digitsText (numeral 10 n (v / 10))) ≡ splice s at (digitsText (numeral 10 (n + 1) v))
 put-digit s at v n h =
     let ds : List ℕ = numeral 10 n (v / 10) in
     splice-behind s at (digitsText ds) (code "0" + v % 10) (at + n) (ap (at +_) (length-text ds ∙ length-numeral 10 n (v / 10))) h
     ∙ rw (numeral-snoc 10 n v) (ap (splice s at) (sym (map-append (code "0" +_) ds (v % 10 ∷ []))))
 
+-- the same where i digits are left to write, and z is what stands there afterwards
+pub digit-more : (s z : List ℕ) (at v i : ℕ) → 0 < i → at + i ≤ length s → splice s at (digitsText (numeral 10 i v)) ≡ z
+    → splice (set s (at + (i - 1)) (code "0" + v % 10)) at (digitsText (numeral 10 (i - 1) (v / 10))) ≡ z
+digit-more s z at v i p h e = let one : i - 1 + 1 ≡ i = omega arith in put-digit s at v (i - 1) (omega arith) ∙ rw one e
+
 -- Hexadecimal.
 
 -- the digits 0 to 9, then the letters from A on
-abbrev pub hexCode : ℕ → ℕ
+abbrev hexCode : ℕ → ℕ
 hexCode d = cond (ltb d 10) (code "0" + d) (code "A" + (d - 10))
 
-pub hex-is : (d : ℕ) → d < 16 → hexDigit d ≡ hexCode d
-hex-is d h = eqb→eq (hexDigit d) (hexCode d) (below-is (λ n. eqb (hexDigit n) (hexCode n)) 16 tt d h)
+module _ (d : ℕ) (h : d < 16) where
+  hex-is : hexDigit d ≡ hexCode d
+  hex-is = eqb→eq (hexDigit d) (hexCode d) (below-is (λ n. eqb (hexDigit n) (hexCode n)) 16 tt d h)
+
+  pub hex-digit : d < 10 → hexDigit d ≡ code "0" + d
+  hex-digit l = hex-is ∙ rw (lt-ltb d 10 l)
+
+  pub hex-letter : 10 ≤ d → hexDigit d ≡ code "A" + (d - 10)
+  hex-letter l = hex-is ∙ rw (le-ltb d 10 l)
 
 pub length-hex : (xs : List ℕ) → length (hexText xs) ≡ 2 * length xs
 length-hex [] = refl

@@ -1,3 +1,4 @@
--- Digits in texts, and pieces of them.
+-- Definitions for pieces of texts: digits that are read, pieces that are written, how a text begins.
 pub mod Digits
 pub mod Pieces
+pub mod Starts

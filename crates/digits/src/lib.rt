@@ -1,13 +1,14 @@
-// Pieces of texts: bytes, numbers in decimal and bytes in hexadecimal written, and runs of decimal digits read.
+// Pieces of texts. Written: bytes, numbers in decimal, bytes in hexadecimal. Read: how a text begins, and runs of decimal digits.
 ghost use mathlib.Core.Bool.{cond};
 ghost use mathlib.Core.Path.{_≡_};
 ghost use Prim.Native.Nat.{_+_, _*_, _/_, _%_, _≤_, _<_};
 ghost use lib.ListN.{length, drop};
 ghost use Rattle.numeral.specs.Numeral.{value, numeral, size, shortest, splice};
 ghost use Rattle.rules.specs.Bytes.{all, digitsText, hexDigit, hexText};
-ghost use Rattle.rules.specs.TextNumbers.{isDigit};
+ghost use Rattle.rules.specs.TextNumbers.{after, isDigit};
 ghost use Rattle.digits.specs.Digits.{leadingDigits};
 ghost use Rattle.digits.specs.Pieces.{Puts};
+ghost use Rattle.digits.specs.Starts.{begun};
 
 // Writes all of src from index `at` on, and returns the index after it.
 pub fn put_bytes(out: &mut [u8], at: usize, src: &[u8]) -> usize
@@ -36,7 +37,7 @@ pub fn put_decimal(out: &mut [u8], at: usize, v: u64) -> usize
     }
 }
 
-// Writes the n lowest digits of v from index `at` on, the last one first.
+// Writes the n lowest decimal digits of v from index `at` on, zeros in front included. The last digit is stored first.
 pub fn put_digits(out: &mut [u8], at: usize, n: usize, v: u64)
     requires { ⌜ at + n ≤ length (now out) ⌝ }
     ensures { λ _. ⌜ now (out .exit) ≡ splice (now (out .entry)) at (digitsText (numeral 10 n v)) ⌝ }
@@ -58,8 +59,9 @@ pub fn hex(d: u8) -> u8
     if d < 10 { b'0' + d } else { b'A' + (d - 10) }
 }
 
-// The two digits of a byte as one number, the first one in its low byte: both are worked out at once, with no branch. A letter
-// stands seven places further on than a digit, and m says of which half that is so.
+// The two hexadecimal digits of a byte as one number, the first digit in its low byte. Both are worked out at once, without a branch:
+// t has the upper half of x in its low byte, and the lower half in its high byte. m has a 1 in each byte of t that is 10 or more, since
+// 6 more is then 16 or more. The digit of such a half is a letter, and `A` stands seven places further on than the character after `9`.
 fn hex_pair(x: u8) -> u16
     ensures { λ r. ⌜ r ≡ hexDigit (x / 16) + 256 * hexDigit (x % 16) ⌝ }
 {
@@ -69,7 +71,7 @@ fn hex_pair(x: u8) -> u16
     t + 0x3030 + m * 7
 }
 
-// Writes all of src from index `at` on, two upper-case digits a byte.
+// Writes all of src from index `at` on, two upper-case hexadecimal digits a byte.
 pub fn put_hex(out: &mut [u8], at: usize, src: &[u8])
     requires { ⌜ at + 2 * length (now src) ≤ length (now out) ⌝ }
     ensures { λ _. ⌜ now (out .exit) ≡ splice (now (out .entry)) at (hexText (now (src .entry))) ⌝ }
@@ -81,6 +83,21 @@ pub fn put_hex(out: &mut [u8], at: usize, src: &[u8])
         out[p + 1] = (pair / 256) as u8;
         p += 2;
     }
+}
+
+// Whether a text begins with `start`.
+pub fn begins(text: &[u8], start: &[u8]) -> bool
+    ensures { λ r. ⌜ r ≡ begun (after (now (start .entry)) (now (text .entry))) ⌝ }
+{
+    if text.len() < start.len() {
+        return false;
+    }
+    for i in 0..start.len() {
+        if text[i] != start[i] {
+            return false;
+        }
+    }
+    true
 }
 
 // Whether c is a decimal digit.
@@ -96,8 +113,11 @@ pub struct Run {
     pub value: u64,
 }
 
-// The digits from index `at` on, at most 19 of them: the value of 19 fits a word, and more are too many for a part of digits
-// and too large for an integer, which has 62 bits at most.
+// The most digits that are read as a number: any 19 of them fit 64 bits. More are too many for every part of a tag: a prefix or a
+// reference has 12 at most, and an integer of 20 digits is too large for its bits, 62 at most.
+pub const MOST_DIGITS: usize = 19;
+
+// The run of digits that begins at index `at`, but no more than `MOST_DIGITS` of them.
 pub fn run_at(text: &[u8], at: usize) -> Run
     requires { ⌜ at ≤ length (now text) ⌝ }
     ensures { λ r. ⌜ r .end ≡ at + length (leadingDigits 19 (drop at (now (text .entry)))) ⌝ }
@@ -105,7 +125,11 @@ pub fn run_at(text: &[u8], at: usize) -> Run
     ensures { λ r. ⌜ (r .end ≤ length (now (text .entry))) × (r .end ≤ at + 19) ⌝ }
 {
     let rest = text.len() - at;
-    let most = if rest < 19 { rest } else { 19 };
+    let most = if rest < MOST_DIGITS {
+        rest
+    } else {
+        MOST_DIGITS
+    };
     let mut n = 0;
     let mut value: u64 = 0;
     while n < most {
@@ -126,8 +150,8 @@ pub fn not_digit(c: u8) -> u8
     if is_digit(c) { 0 } else { 1 }
 }
 
-// Whether all bytes from index `at` on are digits: asked behind a run, so that no byte is looked at twice. The largest answer is taken
-// and no early end, so that the machine looks at many bytes at once.
+// Whether all bytes from index `at` on are digits. Callers ask it behind a run of digits, so that no byte is looked at twice. The loop
+// takes the largest answer and does not end early, so that a processor looks at many bytes at once.
 pub fn all_digits(text: &[u8], at: usize) -> bool
     requires { ⌜ at ≤ length (now text) ⌝ }
     ensures { λ r. ⌜ r ≡ all isDigit (drop at (now (text .entry))) ⌝ }

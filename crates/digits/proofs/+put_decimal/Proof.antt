@@ -1,4 +1,4 @@
--- `digits::put_decimal` meets its contract, by recursion: the value is the falling number.
+-- A recursion: the value falls with each call.
 use native.Mathlib.Omega.{arith}
 use mathlib.Core.Path.{_≡_}
 use Prim.Native.Nat.{ℕ, suc, _/_, _<_}
@@ -34,7 +34,7 @@ returns t c =
     let one : size 10 (s .args .v) ≡ 1 = size-small 10 (lit< tt) (s .args .v) (c .if1 .taken) in
     (omega arith, put-small (now (s .args .out)) (s .args .at) (s .args .v) (c .if1 .taken) (omega arith))
 
--- from ten on there is a digit more than a tenth of the value has
+-- from ten on, v has one digit more than v / 10
 more : (t : ℕ) (c : lts.Else1 (below t, reads.Post) (at t) reads.Post) → size 10 (c .before .before .args .v) ≡ suc (size 10 (c .before .before .args .v / 10))
 more t c = size-large 10 (lit< tt) (c .before .before .args .v) (c .if1 .left)
 

@@ -1,4 +1,4 @@
--- `digits::all_digits` meets its contract. The invariant: all are digits exactly if none passed is wrong and the rest are digits.
+-- The invariant: all bytes are digits exactly if none before i is wrong and all from i on are digits.
 use Prim.Native.Nat.{ℕ, _-_, _≤_}
 use mathlib.Core.Path.{_≡_, refl, sym, _∙_}
 use mathlib.Core.Logic.{⊎-elim}

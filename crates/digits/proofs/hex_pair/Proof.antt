@@ -1,4 +1,4 @@
--- `digits::hex_pair` meets its contract: what is computed of each byte is its two digits.
+-- The sum is the two digits of each byte (`pair-is`), and no step of it overflows.
 use Prim.Native.Nat.{_<_}
 use native.Mathlib.Omega.{arith}
 use mir.Facts.{fits-below}

@@ -1,4 +1,4 @@
--- `digits::is_digit` meets its contract: the first test decides, or leaves it to the second.
+-- The first test decides, or leaves it to the second.
 use borrow.Author.Tests.{le-leb, lt-leb}
 use Rattle.digits.proofs.is_digit.Statement.{statement}
 use Rattle.digits.proofs.is_digit.Tie as tie

@@ -1,4 +1,4 @@
--- `digits::not_digit` meets its contract: both answers of the test.
+-- Both answers of the test.
 use mathlib.Core.Path.{sym, _∙_}
 use borrow.Author.Needs.{needs}
 use Rattle.digits.proofs.not_digit.Statement.{statement}

@@ -1,6 +1,6 @@
--- `digits::put_digits` meets its contract. The invariant: with the i digits that are left, of what is left of the value, the text is written.
+-- The invariant: i digits are left to write, of the value `rest`; once they are written, the whole text is.
 use mathlib.Core.Path.{_≡_, sym, _∙_}
-use Prim.Native.Nat.{_+_, _-_, _≤_}
+use Prim.Native.Nat.{_≤_}
 use native.Mathlib.Omega.{arith}
 use lib.ListN.{length, length-set}
 use borrow.Author.Needs.{needs}
@@ -8,7 +8,7 @@ use Rattle.numeral.specs.Numeral.{numeral, splice}
 use Rattle.numeral.proofs.Values.{numeral-nil}
 use Rattle.numeral.proofs.Splices.{splice-nil}
 use Rattle.rules.specs.Bytes.{digitsText}
-use Rattle.digits.proofs.Texts.{put-digit}
+use Rattle.digits.proofs.Texts.{digit-more}
 use Rattle.digits.proofs.put_digits.Statement.{statement}
 use Rattle.digits.proofs.put_digits.Tie as tie
 
@@ -23,11 +23,7 @@ loop-again : tie.Need-loop-again Inv-loop μ-loop
 loop-again c =
     let a = c .before .loop in
     let at = c .before .before .args .at in
-    let one : a .i - 1 + 1 ≡ a .i = omega arith in (
-      omega arith,
-      simp length-set (omega arith),
-      put-digit (a .out) at (a .rest) (a .i - 1) (omega arith) ∙ rw one (a .inv .2),
-    )
+    (omega arith, simp length-set (omega arith), digit-more (a .out) _ at (a .rest) (a .i) (c .loop-test .taken) (omega arith) (a .inv .2))
 
 returns : tie.Need-returns Inv-loop μ-loop
 returns c =

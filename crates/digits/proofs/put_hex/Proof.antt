@@ -1,17 +1,15 @@
--- `digits::put_hex` meets its contract. The invariant: the i bytes passed are written, up to index p.
+-- The invariant: the first i bytes are written, and their text ends at index p.
 use native.Mathlib.Omega.{arith}
 use mathlib.Core.Path.{_≡_, sym}
-use Prim.Native.Nat.{_+_, _-_, _*_, _/_, _%_, _≤_, _<_}
-use native.Mathlib.Numerals.{add-one}
-use lib.ListN.{length, take, getD, length-set}
+use Prim.Native.Nat.{_+_, _-_, _*_, _≤_}
+use lib.ListN.{length, take, length-set}
 use lib.Seq.{take-all}
 use denote.Ref.{now}
 use borrow.Author.Needs.{needs}
 use Rattle.numeral.specs.Numeral.{splice}
 use Rattle.numeral.proofs.Splices.{splice-nil}
-use Rattle.rules.specs.Bytes.{hexDigit, hexText}
-use Rattle.digits.proofs.Texts.{put-byte}
-use Rattle.digits.proofs.Pairs.{digit-byte, low-byte, high-byte}
+use Rattle.rules.specs.Bytes.{hexText}
+use Rattle.digits.proofs.Pairs.{put-pair}
 use Rattle.digits.proofs.put_hex.Statement.{statement}
 use Rattle.digits.proofs.put_hex.Tie as tie
 
@@ -34,13 +32,12 @@ loop-again : tie.Need-loop-again Inv-loop μ-loop
 loop-again c =
     let a = c .before .before .before in
     let s = a .before .before .before in
-    let x = getD (now (s .args .src)) (a .loop .i) 0 in
-    let small : hexDigit (x / 16) < 256 = digit-byte (x / 16) (omega (arith, c .before .shared-slice-known2 .given (a .loop .i))) in (
+    let byte = c .before .shared-slice-known2 .given (a .loop .i) .fits in (
       search needs,
       omega arith,
       simp length-set (omega arith),
-      rw (c .hex-pair .ensures, low-byte (hexDigit (x / 16)) (hexDigit (x % 16)) small, high-byte (hexDigit (x / 16)) (hexDigit (x % 16)) small, a .loop .inv .3, add-one (a .loop .i))
-          (put-byte (now (s .args .out)) (now (s .args .src)) (s .args .at) (a .loop .i) (a .loop .p) (c .before .before .loop-test .taken) (a .loop .inv .1) (s .pre)),
+      put-pair (now (s .args .out)) (now (s .args .src)) (a .loop .out) (s .args .at) (a .loop .i) (a .loop .p) (c .hex-pair .result) (a .loop .inv .3)
+          (c .before .before .loop-test .taken) (a .loop .inv .1) (s .pre) byte (c .hex-pair .ensures),
     )
 
 returns : tie.Need-returns Inv-loop μ-loop

@@ -1,4 +1,4 @@
--- `digits::run_at` meets its contract. The invariant: n digits of the run are passed, of `most` at most, and `value` is theirs.
+-- The invariant: n digits of the run are passed, `most` of them or fewer, and `value` is their value.
 use native.Mathlib.Omega.{arith}
 use mathlib.Core.Path.{_≡_, sym, _∙_}
 use mathlib.Core.Logic.{⊎-elim}
@@ -32,7 +32,7 @@ loop-holds c =
     let start = passed-none 19 (drop (s .args .at) (now (s .args .text))) in
     ⊎-elim (λ w. (omega arith, omega arith, omega arith, start)) (λ w. (omega arith, omega arith, omega arith, start)) (c .if1 .came)
 
--- where the loop goes on the character is a digit, and there is room for it
+-- where the loop goes on, the byte is a digit, and one more digit fits 64 bits
 goes-on : (c : tie.Else2 Inv-loop μ-loop) →
     let a = c .before .before .before .before in
     let s = a .before .before .before in
@@ -65,7 +65,7 @@ loop-again c =
     let next = passed-more 19 (drop (s .args .at) text) (a .loop .n) (a .loop .value) (getD text (s .args .at + a .loop .n) 0) (a .loop .inv .3) in
     (search needs, search needs, search needs, next (omega arith) (rw length-drop (omega arith)) (getD-drop (s .args .at) text (a .loop .n) 0) (goes-on c .0))
 
--- where the loop is left the whole run is passed: `most` digits are, or another character stands there
+-- where the loop ends, the whole run is passed: it has `most` digits, or a byte that is no digit follows
 passed : (c : tie.Left-loop Inv-loop μ-loop) →
     let s = c .before .before .before .before in
     length (leadingDigits 19 (drop (s .args .at) (now (s .args .text)))) ≤ c .before .loop .n
