@@ -1,4 +1,4 @@
--- What is proved of fields of bits, and of streams.
+-- Laws of fields of bits, and of streams.
 pub mod Pieces
 pub mod Streams
 pub mod Pushes

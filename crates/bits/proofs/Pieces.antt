@@ -1,4 +1,4 @@
--- A field of bits that lies in one byte, and one that is cut in two.
+-- A field of bits that lies in one byte, and a field that is read in two pieces.
 use mathlib.Core.Path.{_≡_, sym, ap, _∙_}
 use Prim.Native.Nat.{ℕ, _+_, _-_, _*_, _/_, _%_, _^_, _≤_, _<_}
 use native.Mathlib.Omega.{arith}
@@ -21,7 +21,7 @@ piece-is xs at n fits within =
     let place : 8 * (at / 8) + at % 8 ≡ at = omega arith in
     ap (value 2) (rw (width, place) at (field-in 2 (at % 8) n (8 - at % 8 - n) xs (at / 8) within)) ∙ value-numeral 2 n _
 
--- all eight of them
+-- all eight bits of it
 pub byte-is : (xs : List ℕ) (at : ℕ) → at % 8 ≡ 0 → at / 8 < length xs → getD xs (at / 8) 0 < 256 → fieldAt xs at 8 ≡ getD xs (at / 8) 0
 byte-is xs at start within byte =
     let none : 8 - at % 8 - 8 ≡ 0 = omega arith in
@@ -30,7 +30,7 @@ byte-is xs at start within byte =
 pub field-none : (xs : List ℕ) (at : ℕ) → fieldAt xs at 0 ≡ 0
 field-none xs at = value-nil 2
 
--- v is the field of the bits that are done, and x that of the next n
+-- v is the number in the bits that are done, and x that in the next n
 module _ (xs : List ℕ) (at done n v x : ℕ) (e : v ≡ fieldAt xs at done) (f : x ≡ fieldAt xs (at + done) n) (h : at + (done + n) ≤ 8 * length xs) where
   within : at + (done + n) ≤ length (bits xs)
   within = rw length-spread h

@@ -1,4 +1,4 @@
--- The steps of `push`: the new bits join those that wait, byte after byte is stored, and what is left is cleared above its bits.
+-- The steps of `push`: the new bits join those that wait, byte after byte is stored, and the number left keeps only the bits that wait.
 use mathlib.Core.Path.{_≡_, refl, sym, _∙_}
 use Prim.Native.Nat.{ℕ, _+_, _-_, _*_, _/_, _%_, _^_, _≤_, _<_}
 use native.Mathlib.Omega.{arith}
@@ -14,7 +14,7 @@ use Rattle.numeral.proofs.Splices.{splice-one}
 use Rattle.bits.specs.Streams.{Written, Streamed}
 use Rattle.bits.proofs.Streams.{more}
 
--- n bits and w more are one number, and up to 64 fit a word
+-- n bits and w more are one number; up to 64 bits fit a word
 module _ (n w u v : ℕ) (h : v < 2 ^ w) where
   pub join : numeral 2 n u ++ numeral 2 w v ≡ numeral 2 (n + w) (u * 2 ^ w + v)
   join =
@@ -24,7 +24,7 @@ module _ (n w u v : ℕ) (h : v < 2 ^ w) where
   pub join-lt : n + w ≤ 64 → u < 2 ^ n → u * 2 ^ w + v < 2 ^ 64
   join-lt k l = lt-of-lt-of-le (rw pow-add (digits-lt l h)) (pow-mono k)
 
--- the upper byte of the n bits that wait, stored
+-- the upper eight of the n bits that wait are stored as a byte
 byte : (l : List ℕ) (at b n : ℕ) → 8 ≤ n → at < length l
     → Written l at (numeral 2 n b) (set l at (b / 2 ^ (n - 8) % 256)) (record { at = at + 1; bits = b; count = n - 8 })
 unfolding spread

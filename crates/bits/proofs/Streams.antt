@@ -1,4 +1,4 @@
--- Streams of bits: how one begins, goes on and ends, and that its bits fix it.
+-- Streams of bits: how one begins, goes on and ends. The bits written decide what is stored and what waits.
 use mathlib.Core.Path.{_≡_, refl, sym, ap, _∙_}
 use Prim.Native.Nat.{ℕ, _+_, _*_, _/_, _^_, _≤_, _<_}
 use native.Mathlib.Omega.{arith}
@@ -15,7 +15,7 @@ use Rattle.bits.specs.Streams.{waiting, Written, Streamed, Takes}
 use Rattle.bits.specs.declared.Stream.{Stream}
 
 module _ {before : List ℕ} {a : ℕ} {ds after : List ℕ} {s : Stream} (w : Written before a ds after s) where
-  -- where the stream stands tells how many bits are written
+  -- the place of the stream tells how many bits are written
   pub counted : 8 * s .at + s .count ≡ 8 * a + length ds
   counted =
       let e : length ds ≡ 8 * length (w .whole) + s .count = ap length (w .parts) ∙ simp (length-append, length-spread, length-numeral) in
@@ -63,14 +63,14 @@ module _ {before : List ℕ} {a : ℕ} {ds after : List ℕ} {s : Stream} (w : S
       let all : ds ≡ bits (w .written .whole) = w .written .parts ∙ rw (none, numeral-nil, append-nil) in
       (w .written .stored ∙ rw (all, gather-spread 2 8 k (w .written .whole) (w .written .bytes) size), omega arith)
 
--- two lists cut at one place
+-- two equal lists, cut at the same place, have equal parts
 cut-inj : (a b c d : List ℕ) → length a ≡ length c → a ++ b ≡ c ++ d → (a ≡ c) × (b ≡ d)
 cut-inj [] b [] d l e = (refl, e)
 cut-inj [] b (y ∷ c) d l e = absurd (omega arith)
 cut-inj (x ∷ a) b [] d l e = absurd (omega arith)
 cut-inj (x ∷ a) b (y ∷ c) d l e = let r = cut-inj a b c d (omega arith) (cc) in (cc, r .1)
 
--- the bits fix what is stored and what waits
+-- the bits written decide what is stored and what waits: there is one result
 pub one-result : (before : List ℕ) (a : ℕ) (ds x y : List ℕ) (s t : Stream) → Streamed before a ds x s → Streamed before a ds y t → (x ≡ y) × (s ≡ t)
 one-result before a ds x y s t h k =
     let u = h .written in

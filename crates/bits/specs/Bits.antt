@@ -11,7 +11,8 @@ bits bytes = spread 2 8 bytes
 abbrev pub fieldAt : List ℕ → ℕ → ℕ → ℕ
 fieldAt bytes p w = value 2 (take w (drop p (bits bytes)))
 
--- the `width` bits from bit `at` on are a word at most, lie in so many bytes, and are near enough to be counted
+-- a field of `width` bits from bit `at` on: it has 64 bits or fewer, and lies within so many bytes; `at` is bounded so that no sum of places
+-- overflows
 pub record Within (at width bytes : ℕ) : Type 0 where
   pub narrow : width ≤ 64
   pub near : at ≤ 65536

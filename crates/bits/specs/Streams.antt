@@ -1,4 +1,4 @@
--- A stream of bits that fills bytes: what is stored, and what waits for its byte to be full.
+-- A stream of bits that fills bytes: full bytes are stored, and the bits left over wait.
 use mathlib.Core.Path.{_≡_}
 use Prim.Native.Nat.{ℕ, _+_, _/_, _^_, _≤_, _<_}
 use mathlib.Core.List.{List, _++_}
@@ -11,12 +11,12 @@ use Rattle.bits.specs.declared.Stream.{Stream}
 abbrev pub waiting : Stream → List ℕ
 waiting s = numeral 2 (s .count) (s .bits)
 
--- fewer than a byte's bits wait, and nothing stands above them
+-- fewer than eight bits wait, and `bits` holds nothing else
 pub record Sound (s : Stream) : Type 0 where
   pub few : s .count < 8
   pub clear : s .bits < 2 ^ s .count
 
--- the bits ds are written into `before` from byte a on, which left `after`: the bytes `whole` are stored, and the bits behind theirs wait
+-- the bits ds are written from byte a on: the bytes `whole` are stored, and the bits behind them wait; the output was `before` and is now `after`
 pub record Written (before : List ℕ) (a : ℕ) (ds after : List ℕ) (s : Stream) : Type 0 where
   pub whole : List ℕ
   pub bytes : Digits 256 whole
@@ -25,12 +25,12 @@ pub record Written (before : List ℕ) (a : ℕ) (ds after : List ℕ) (s : Stre
   pub stands : s .at ≡ a + length whole
   pub inside : s .at ≤ length before
 
--- the same, with all bytes stored that are full
+-- the same, where every full byte is stored
 pub record Streamed (before : List ℕ) (a : ℕ) (ds after : List ℕ) (s : Stream) : Type 0 where
   pub sound : Sound s
   pub written : Written before a ds after s
 
--- v is a number of `width` bits that s can take, with room for it in so many bytes; 7 bits that wait and 57 more are a word
+-- the stream s can take the `width` bits of v: the output has so many bytes, which is room enough; 57 bits and 7 that wait are 64
 pub record Takes (s : Stream) (width v bytes : ℕ) : Type 0 where
   pub sound : Sound s
   pub narrow : width ≤ 57

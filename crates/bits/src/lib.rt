@@ -1,4 +1,4 @@
-// Fields of bits in a slice of bytes, most significant bit first: read at any place, and written as a stream.
+// Fields of bits in a slice of bytes, most significant bit first: read at any place, and written one after the other.
 ghost use mathlib.Core.Path.{_≡_};
 ghost use mathlib.Core.List.{_++_};
 ghost use Prim.Native.Nat.{_+_, _*_, _/_, _%_, _^_, min, _≤_, _<_};
@@ -7,15 +7,15 @@ ghost use Rattle.numeral.specs.Numeral.{numeral};
 ghost use Rattle.bits.specs.Bits.{fieldAt, Within};
 ghost use Rattle.bits.specs.Streams.{waiting, Streamed, Takes};
 
-// Where a stream of bits stands: the bytes before `at` are stored, and the `count` low bits of `bits`, fewer than
-// eight, wait for theirs.
+// Where a stream of bits stands. The bytes before index `at` are stored. Bits that do not fill a byte yet wait: they are the `count` low
+// bits of `bits`, fewer than eight.
 pub struct Stream {
     pub at: usize,
     pub bits: u64,
     pub count: usize,
 }
 
-// The number u with the n bits of v behind it.
+// The number whose bits are those of u and then the n bits of v.
 fn joined(u: u64, n: usize, v: u64) -> u64
     requires { ⌜ (n < 64) × (u * 2 ^ n + v < 2 ^ 64) ⌝ }
     ensures { λ r. ⌜ r ≡ u * 2 ^ n + v ⌝ }
@@ -31,13 +31,14 @@ fn low(v: u64, n: usize) -> u64
     v & ((1 << n) - 1)
 }
 
-fn least(a: usize, b: usize) -> usize
+// The smaller of two numbers.
+pub fn least(a: usize, b: usize) -> usize
     ensures { λ r. ⌜ r ≡ min a b ⌝ }
 {
     if a < b { a } else { b }
 }
 
-// The number in the n bits from bit `at` on, which lie in one byte.
+// The number in the n bits from bit `at` on, where they lie in one byte.
 fn piece(bank: &[u8], at: usize, n: usize) -> u64
     requires { ⌜ (at % 8 + n ≤ 8) × (at + n ≤ 8 * length (now bank)) ⌝ }
     ensures { λ r. ⌜ r ≡ fieldAt (now (bank .entry)) at n ⌝ }
@@ -57,7 +58,8 @@ fn byte(bank: &[u8], at: usize) -> u64
     bank[at / 8] as u64
 }
 
-// The number in the `width` bits from bit `at` on: to the end of the first byte, whole bytes, and into the last one.
+// The number in the `width` bits from bit `at` on. It is read in pieces: the bits up to the end of the first byte, whole bytes, and the
+// first bits of the last byte.
 pub fn field(bank: &[u8], at: usize, width: usize) -> u64
     requires { ⌜ Within at width (length (now bank)) ⌝ }
     ensures { λ r. ⌜ r ≡ fieldAt (now (bank .entry)) at width ⌝ }
@@ -71,7 +73,7 @@ pub fn field(bank: &[u8], at: usize, width: usize) -> u64
     joined(v, width - done, piece(bank, at + done, width - done))
 }
 
-// The stream with the `width` bits of v behind it: each byte that is full is stored, once, and the rest waits.
+// Writes the `width` bits of v behind the stream s. Each byte that is full is stored, once, and the bits left over wait.
 pub fn push(out: &mut [u8], s: Stream, width: usize, v: u64) -> Stream
     requires { ⌜ Takes s width v (length (now out)) ⌝ }
     ensures { λ r. ⌜ Streamed (now (out .entry)) (s .at) (waiting s ++ numeral 2 width v) (now (out .exit)) r ⌝ }

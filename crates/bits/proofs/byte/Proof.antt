@@ -1,4 +1,4 @@
--- `bits::byte` meets its contract, by `byte-is`.
+-- A byte is its own field (`byte-is`).
 use mathlib.Core.Path.{sym}
 use Prim.Native.Nat.{_/_}
 use native.Mathlib.Omega.{arith}

@@ -1,5 +1,4 @@
--- `bits::field` meets its contract. The invariant: v is the field of the bits that are done, and a byte begins behind them unless all are done.
--- The measure is what is left.
+-- The invariant: v is the number in the bits that are done, and a byte begins behind them unless all are done. The measure is the bits left.
 use mathlib.Core.Path.{_≡_, _∙_}
 use Prim.Native.Nat.{_+_, _-_, _%_, _≤_, min}
 use native.Mathlib.Omega.{arith}
@@ -28,7 +27,7 @@ loop-again c =
     let l = c .before .before .before .loop in
     let begins : (a .at + l .done) % 8 ≡ 0 = omega arith in
     let next : (a .at + (l .done + 8)) % 8 ≡ 0 = omega arith in
-    (search needs, omega arith, c .joined .ensures ∙ field-next (now (a .bank)) (a .at) (l .done) 8 (l .v) (c .before .byte .result) (l .inv .2) (c .before .byte .ensures) (omega arith))
+    (omega arith, omega arith, c .joined .ensures ∙ field-next (now (a .bank)) (a .at) (l .done) 8 (l .v) (c .before .byte .result) (l .inv .2) (c .before .byte .ensures) (omega arith))
 
 joined-requires-2 : tie.Need-joined-requires-2 Inv-loop μ-loop
 joined-requires-2 c κs =
@@ -51,7 +50,7 @@ field-spec =
     μ-loop
     (λ c. search needs)
     (λ c κs. search needs)
-    (λ c κs. search needs)
+    (λ c κs. omega arith)
     (λ c. search needs)
     (λ c. search needs)
     (λ c. search needs)

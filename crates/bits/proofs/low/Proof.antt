@@ -1,4 +1,4 @@
--- `bits::low` meets its contract: the mask is one less than a power.
+-- The mask is one less than 2 ^ n.
 use mathlib.Core.Path.{_≡_, _∙_}
 use Prim.Native.Nat.{_*_, _%_, _^_}
 use native.Mathlib.Omega.{arith}

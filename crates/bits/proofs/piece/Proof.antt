@@ -1,4 +1,4 @@
--- `bits::piece` meets its contract, by `piece-is`; no bits are the number 0.
+-- No bits are the number 0; n bits of one byte are as `piece-is` says.
 use mathlib.Core.Path.{sym, _∙_}
 use Prim.Native.Nat.{_/_}
 use native.Mathlib.Omega.{arith}

@@ -1,4 +1,4 @@
--- `bits::push` meets its contract. The invariant: the n₀ bits of `all` are written, of which n still wait. The measure is n.
+-- The invariant: the n₀ bits of `all` are written, and n of them still wait. The measure is n.
 use mathlib.Core.Path.{_≡_, _∙_}
 use Prim.Native.Nat.{_+_, _*_}
 use native.Mathlib.Omega.{arith}
@@ -27,7 +27,7 @@ joined-requires c κs =
 loop-holds : tie.Need-loop-holds Inv-loop μ-loop
 loop-holds c = unstored (now (c .before .before .before .args .out)) _ (omega arith)
 
--- where the loop stands: as many bits as it has stored no longer wait
+-- each byte that is stored takes eight bits from those that wait
 stands : (c : tie.At-loop Inv-loop μ-loop)
     → let a = c .before .before .before .before .args in 8 * c .loop .at + c .loop .n ≡ 8 * a .s .at + (a .s .count + a .width)
 stands c = counted (c .loop .inv) ∙ rw length-numeral
