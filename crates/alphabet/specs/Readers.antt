@@ -23,13 +23,13 @@ abbrev pub Kept : Option (List ℕ) → ℕ → List ℕ → List ℕ → Type 0
 Kept none n l z = Unit {0}
 Kept (some cs) n l z = z ≡ sets l n cs
 
--- the character of an escape, where a text begins with the two digits of one
+-- the character whose escape has the two digits that a text begins with
 abbrev pub escapeIn : List ℕ → Option ℕ
 escapeIn [] = none
 escapeIn (h ∷ []) = none
 escapeIn (h ∷ l ∷ t) = escape escaped h l
 
--- the same as the code holds it
+-- the same as an answer of the code
 abbrev pub foundOf : Option ℕ → Found
 foundOf none = Nothing
 foundOf (some c) = Character c

@@ -10,20 +10,20 @@ use Rattle.rules.specs.Bytes.{among}
 use Rattle.rules.specs.Characters.{escaped, character}
 use Rattle.alphabet.specs.declared.Spelled.{Spelled}
 
--- 0: no character of table A-1; 1: a character that stands for itself; 2: one of the seven that are escaped
+-- 0 (`NONE` in the code): no character of table A-1; 1 (`PLAIN`): one that stands for itself; 2 (`ESCAPED`): one of the seven escaped
 unfoldable pub classOf : ℕ → ℕ
 classOf c = cond (character c) (cond (among c escaped) 2 1) 0
 
--- a table with an entry for each byte value, which is its class
+-- a table of classes, an entry for each byte value
 pub record ClassTable (table : List ℕ) : Type 0 where
   pub entry : (c : ℕ) → c < 256 → getD table c 0 ≡ classOf c
 
--- what is told of a text's characters: their number, and the first twenty with zeros behind; for a wrong form, 0 and zeros
+-- the answer of `read`: the number of characters, and the first twenty with zeros behind; for a wrong form, 0 and zeros
 abbrev pub spelledOf : Option (List ℕ) → Spelled
 spelledOf none = record { count = 0; characters = replicate 20 0 }
 spelledOf (some cs) = record { count = length cs; characters = take 20 (cs ++ replicate 20 0) }
 
--- the number of characters in the groups, and 0 where the groups are refused; groups that are taken hold a character at least
+-- the answer of `count`: the number of characters, or 0 where the groups are refused; groups that are not refused hold one at least
 abbrev pub countOf : Answer (List ℕ) → ℕ
 countOf (refused n) = 0
 countOf (taken cs) = length cs

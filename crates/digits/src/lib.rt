@@ -59,9 +59,9 @@ pub fn hex(d: u8) -> u8
     if d < 10 { b'0' + d } else { b'A' + (d - 10) }
 }
 
-// The two hexadecimal digits of a byte as one number, the first digit in its low byte. Both are worked out at once, without a branch:
-// t has the upper half of x in its low byte, and the lower half in its high byte. m has a 1 in each byte of t that is 10 or more, since
-// 6 more is then 16 or more. The digit of such a half is a letter, and `A` stands seven places further on than the character after `9`.
+// The two hexadecimal digits of a byte as one number, the first digit in its low byte. Both are worked out at once, without a branch.
+// t has the upper half of x in its low byte, and the lower half in its high byte. m has a 1 in each byte of t that is 10 or more: with 6
+// added, such a byte reaches 16. 0x3030 is the character `0` twice. Letters are 7 further on, since `A` is not the character after `9`.
 fn hex_pair(x: u8) -> u16
     ensures { λ r. ⌜ r ≡ hexDigit (x / 16) + 256 * hexDigit (x % 16) ⌝ }
 {
