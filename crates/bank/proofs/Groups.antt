@@ -11,7 +11,7 @@ use Rattle.numeral.proofs.Values.{digits-take, digits-drop}
 use Rattle.numeral.proofs.Spreads.{length-spread, digits-spread, length-gather, gather-part}
 use Rattle.numeral.proofs.Splices.{splice-at}
 use Rattle.rules.proofs.CodeReads.{take-inside}
-use Rattle.bank.specs.Reader.{codeField}
+use Rattle.bank.specs.BitReaders.{codeField}
 use Rattle.bank.specs.Reading.{groupsAt}
 
 pub length-groups : (b : List ℕ) (c k : ℕ) → length (groupsAt b c k) ≡ k
@@ -25,7 +25,7 @@ pub length-stored : (b : List ℕ) (c k i : ℕ) (l : List ℕ) → Stored b c k
 length-stored b c k i l e h m =
     ap length e ∙ simp (length-append, length-take-le i (groupsAt b c k) (omega (arith, length-groups b c k)), length-replicate) (omega arith)
 
-module _ (b : List ℕ) (c k : ℕ) (inside : 16 + c + 7 * k ≤ 8 * length b) where
+module _ (b : List ℕ) (c k : ℕ) (inside : 0x20 + c + 7 * k ≤ 0x10 + 8 * length b) where
   -- some groups are the number in their own bits
   some-groups : (i n : ℕ) → i + n ≤ k → numeral 128 n (codeField b (c + 7 * i) (7 * n)) ≡ take n (drop i (groupsAt b c k))
   unfolding gather

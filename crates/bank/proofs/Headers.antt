@@ -1,22 +1,23 @@
--- The header, the words and the zeros behind the parts, in the code's own terms: o is what the header names, and l the line of its scheme.
+-- The header, the words and the zeros behind the parts, in the code's own terms: o is what the header names, and l the outline of its scheme.
 use Prim.Native.Nat.{ℕ, _+_, _-_, _*_, _≤_}
 use mathlib.Core.Path.{_≡_, refl, sym, ap, _∙_}
 use mathlib.Core.List.{List}
 use mathlib.Core.Option.{Option, none, some}
 use native.Mathlib.Omega.{arith}
+use lib.Dec.{lit≤}
 use lib.ListN.{length}
-use Rattle.rules.specs.Answers.{refused}
+use Rattle.rules.specs.Answers.{refused, taken}
 use Rattle.rules.specs.declared.Scheme.{Scheme}
 use Rattle.rules.specs.Schemes.{schemes, about, words, zeroBits}
-use Rattle.rules.specs.BankNumbers.{headed, tagOfBank}
+use Rattle.rules.specs.BankNumbers.{headed, controlIn, tagOfBank}
 use Rattle.rules.proofs.Codes as Codes
-use Rattle.scheme.specs.declared.lines.Line.{Line}
-use Rattle.scheme.specs.declared.lines.Headed.{Headed}
-use Rattle.scheme.specs.declared.lines.Headed.the-variants.{Is, Unlisted}
-use Rattle.scheme.specs.Lines.{partsOf, lineOf, named, headedBy}
-use Rattle.scheme.proofs.Widths.{parts-same}
-use Rattle.bank.specs.Reader.{codeField}
-use Rattle.bank.specs.Reading.{endOf, Clean, Coded}
+use Rattle.rules.proofs.BankReads.{clean-of}
+use Rattle.scheme.specs.declared.outlines.Outline.{Outline}
+use Rattle.scheme.specs.declared.outlines.Headed.{Headed}
+use Rattle.scheme.specs.declared.outlines.Headed.the-variants.{Is, Unlisted}
+use Rattle.scheme.specs.Outlines.{outlineOf, named, headedBy}
+use Rattle.bank.specs.BitReaders.{LiesInCode, codeField}
+use Rattle.bank.specs.Reading.{endOf, Coded}
 use Rattle.bank.proofs.Sizes.{sizes}
 use Rattle.bank.proofs.Stages.{unlisted, other-words, one-after}
 
@@ -29,6 +30,9 @@ named-some : (o : Option Scheme) (s : Scheme) → named o ≡ Is s → o ≡ som
 named-some none s e = let z : _≡_ {A = ℕ} 0 1 = cc in absurd (omega arith)
 named-some (some t) s e = cc
 
+pub header-lies : (b : List ℕ) (W : ℕ) → controlIn b ≡ taken W → LiesInCode 0 8 (length b)
+header-lies b W c = let k = clean-of b W c in record { narrow = lit≤ tt; first = lit≤ tt; small = lit≤ tt; inside = omega (arith, k .long, k .some-words) }
+
 -- the parts of a code in W words end z bits before `bits`, and what follows can be read
 pub record Ended (bits z W bytes : ℕ) : Type 0 where
   pub zeros : z ≤ bits
@@ -37,7 +41,7 @@ pub record Ended (bits z W bytes : ℕ) : Type 0 where
   pub narrow : 16 * W - (bits - z) ≤ 64
   pub long : 2 + 2 * W ≤ bytes
 
-module _ (b : List ℕ) (W : ℕ) (c : Clean b W) (h : ℕ) (eh : h ≡ codeField b 0 8) (o : Headed) (eo : o ≡ headedBy h) where
+module _ (b : List ℕ) (W : ℕ) (c : controlIn b ≡ taken W) (h : ℕ) (eh : h ≡ codeField b 0 8) (o : Headed) (eo : o ≡ headedBy h) where
   names : o ≡ named (headed (codeField b 0 8) schemes)
   unfolding headedBy
   names = eo ∙ ap headedBy eh
@@ -45,7 +49,7 @@ module _ (b : List ℕ) (W : ℕ) (c : Clean b W) (h : ℕ) (eh : h ≡ codeFiel
   pub no-scheme : o ≡ Unlisted → tagOfBank b ≡ refused 13
   no-scheme e = unlisted b W c (named-none (headed (codeField b 0 8) schemes) (sym names ∙ e))
 
-  module _ (s : Scheme) (es : o ≡ Is s) (l : Line) (el : l ≡ lineOf s) where
+  module _ (s : Scheme) (es : o ≡ Is s) (l : Outline) (el : l ≡ outlineOf s) where
     found : headed (codeField b 0 8) schemes ≡ some s
     found = named-some (headed (codeField b 0 8) schemes) s (sym names ∙ es)
 
@@ -55,12 +59,12 @@ module _ (b : List ℕ) (W : ℕ) (c : Clean b W) (h : ℕ) (eh : h ≡ codeFiel
     pub wrong-words : ¬ (W ≡ l .words) → tagOfBank b ≡ refused 14
     wrong-words h = other-words b W c s found (λ e. h (e ∙ sym words-are))
 
-    module _ (ew : W ≡ l .words) (z : ℕ) (ez : z ≡ zeroBits (partsOf (l .parts))) where
+    module _ (ew : W ≡ l .words) (z : ℕ) (ez : z ≡ zeroBits (l .parts)) where
       words-same : W ≡ words s
       words-same = ew ∙ words-are
 
       zeros-are : z ≡ zeroBits (about s .parts)
-      zeros-are = ez ∙ ap (λ l. zeroBits (partsOf (l .parts))) el ∙ ap zeroBits (parts-same s _ refl)
+      zeros-are = ez ∙ ap (λ l. zeroBits (l .parts)) el
 
       end-is : l .bits - z ≡ endOf s
       end-is = rw (zeros-are, el)
@@ -70,8 +74,8 @@ module _ (b : List ℕ) (W : ℕ) (c : Clean b W) (h : ℕ) (eh : h ≡ codeFiel
         zeros = omega (arith, zeros-are, ap (λ l. l .bits) el, Codes.sizes s .whole);
         inside = omega (arith, end-is, words-same, Codes.sizes s .inside);
         few = omega (arith, words-same, Codes.sizes s .few-words);
-        narrow = omega (arith, end-is, words-same, sizes s _ refl .zeros);
-        long = c .long;
+        narrow = omega (arith, end-is, words-same, sizes s .zeros);
+        long = rw (clean-of b W c .count) (clean-of b W c .long);
       }
 
       module _ (x : ℕ) (ex : x ≡ codeField b (l .bits - z) (16 * W - (l .bits - z))) where
@@ -82,4 +86,4 @@ module _ (b : List ℕ) (W : ℕ) (c : Clean b W) (h : ℕ) (eh : h ≡ codeFiel
         not-zero h = one-after b W c s found words-same (rw (← rest-is) h)
 
         pub coded : x ≡ 0 → Coded b s (l .parts)
-        coded e = record { clean = rw words-same at c; header = found; zeros = sym rest-is ∙ e; parts = ap (λ l. l .parts) el }
+        coded e = record { clean = c ∙ ap taken words-same; header = found; zeros = sym rest-is ∙ e; parts = sym (ap (λ l. l .parts) el) }

@@ -1,8 +1,10 @@
 -- Laws: of reading, then of writing.
 mod Sizes
+mod Steps
 mod Strings
 mod Groups
 mod Zeros
+pub mod Controls
 mod Stages
 mod Numbers
 mod Parts
@@ -11,8 +13,8 @@ mod Answers
 mod Headers
 mod Prefixes
 mod Companies
-mod Fronts
 mod RawTexts
+mod Rooms
 mod PackedRows
 mod PackedStrings
 mod PackedParts

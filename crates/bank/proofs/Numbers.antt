@@ -10,13 +10,15 @@ use borrow.Author.Tests.{lt-ltb, le-ltb, ne-eqb}
 use Rattle.numeral.specs.Numeral.{numeral, shortest}
 use Rattle.numeral.proofs.Values.{length-numeral}
 use Rattle.rules.specs.Answers.{Answer, refused, taken, _>>=_, _>>_, demand}
-use Rattle.rules.specs.Schemes.{Body, F, prefixBits, prefixDigits}
+use Rattle.rules.specs.declared.Body.{Body}
+use Rattle.rules.specs.declared.Parts.the-variants.{F}
+use Rattle.rules.specs.Schemes.{prefixBits, prefixDigits}
 use Rattle.rules.specs.Grammar.{laid, bodyLayout}
 use Rattle.rules.specs.Coding.{wordCount, bankSize}
 use Rattle.rules.specs.Conditions.{partitionIn, rowIn}
 use Rattle.rules.specs.BankNumbers.{decimal, fieldsIn, codeIn}
 use Rattle.rules.proofs.BankReads.{code-seen}
-use Rattle.bank.specs.Reader.{codeField}
+use Rattle.bank.specs.BitReaders.{codeField}
 
 -- a part in front, and another in front of that
 in-front : (x y : List ℕ) (a : Answer (List (List ℕ))) → ((a >>= λ ps. taken (y ∷ ps)) >>= λ ps. taken (x ∷ ps)) ≡ (a >>= λ ps. taken (x ∷ y ∷ ps))

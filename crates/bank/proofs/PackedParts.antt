@@ -1,6 +1,6 @@
 -- The fields of a tag's record keep the limits of its scheme's parts, and their bits are those of the tag's parts.
 use Prim.Native.Nat.{ℕ, _+_, _-_, _*_, _/_, _^_, _≤_, _<_}
-use mathlib.Core.Path.{_≡_, refl, sym, ap, _∙_, subst, subst⁻¹}
+use mathlib.Core.Path.{_≡_, refl, sym, ap, _∙_, subst⁻¹}
 use mathlib.Core.List.{List, _∷_, _++_, append-assoc}
 use native.Mathlib.Omega.{arith}
 use lib.Dec.{leb, leb→le, ltb→lt, eqb→eq, lit<}
@@ -10,59 +10,58 @@ use Rattle.numeral.specs.Numeral.{value, Digits, spread}
 use Rattle.numeral.proofs.Values.{value-lt, digits-append, digits-take, digits-zeros}
 use Rattle.rules.specs.declared.Scheme.{Scheme}
 use Rattle.rules.specs.declared.Table.{Table}
-use Rattle.rules.specs.Schemes.{prefix, integer, string, Row, row, reference, referenceE, rowOf, cell, Body, _then_, _zeros_, E, about, zeroBits}
-use Rattle.rules.specs.Schemes.{Parts as RulesParts}
+use Rattle.rules.specs.declared.Last.the-variants.{Integer, String}
+use Rattle.rules.specs.declared.Body.{Body}
+use Rattle.rules.specs.declared.Body.the-variants.{Then, Zeros, E}
+use Rattle.rules.specs.declared.Parts.{Parts}
+use Rattle.rules.specs.declared.Parts.the-variants.{F, Integers}
+use Rattle.rules.specs.Schemes.{integer, string, rowDigits, assetBits, rowOf, cell, about, zeroBits}
 use Rattle.rules.specs.Grammar.{Fit, Fits, laid, layout, Tag}
-use Rattle.rules.specs.Coding.{binary, filled, partBits, coded}
+use Rattle.rules.specs.Coding.{filled, coded}
 use Rattle.rules.proofs.Tests.{both}
 use Rattle.rules.proofs.Decimals.{all-digits}
 use Rattle.rules.proofs.Fields.{characters-are, filled-is}
-use Rattle.scheme.specs.declared.lines.Parts.{Parts}
-use Rattle.scheme.specs.declared.lines.Parts.the-variants.{Integer, String, Zeros, Asset, Integers}
 use Rattle.scheme.specs.declared.record.Record.{Record}
-use Rattle.scheme.specs.Lines.{partsOf, lineOf, Narrow}
-use Rattle.scheme.proofs.Widths.{parts-same, parts-narrow}
+use Rattle.scheme.specs.Outlines.{Narrow}
+use Rattle.scheme.proofs.Widths.{parts-narrow}
 use Rattle.scheme.specs.Records.{recordOf, RecordIs, filterOf, prefixOf, digitsOf, referenceOf, serialOf, charactersOf, padded}
-use Rattle.scheme.specs.Rows.{assetOf}
 use Rattle.scheme.proofs.Shapes.{Partitioned, partitioned, reference-and-last, reference-alone, asset-alone, general}
-use Rattle.bank.specs.Writing.{Company, Reference, Number, Keeps, packed}
+use Rattle.bank.specs.Writing.{Company, Reference, Asset, Number, Keeps, packed}
 
-few-zeros-in : (p : Parts) → Narrow p → zeroBits (partsOf p) ≤ 24
-few-zeros-in (Integer t n) l = omega arith
-few-zeros-in (String t n) l = omega arith
-few-zeros-in (Zeros t n) l = l
-few-zeros-in Asset l = omega arith
-few-zeros-in (Integers a b c) l = omega arith
+few-zeros-in : (p : Parts) → Narrow p → zeroBits p ≤ 24
+few-zeros-in (F (Then t l)) h = omega arith
+few-zeros-in (F (Zeros t n)) h = h
+few-zeros-in (F E) h = omega arith
+few-zeros-in (Integers a b c) h = omega arith
 
--- A scheme and the parts of its line.
-module _ (s : Scheme) where
-  parts-are : partsOf (lineOf s .parts) ≡ about s .parts
-  parts-are = parts-same s (lineOf s .parts) refl
+pub few-zeros : (s : Scheme) → zeroBits (about s .parts) ≤ 24
+few-zeros s = few-zeros-in (about s .parts) (parts-narrow s)
 
-  narrow : Narrow (lineOf s .parts)
-  narrow = parts-narrow s (lineOf s .parts) refl
+-- A filter and a company prefix, and a reference behind them: of table t, or of table E.
+module _ {body : Body} {ps : List (List ℕ)} (a : Partitioned body ps) where
+  six-to-twelve : (6 ≤ length (a .prefix)) × (length (a .prefix) ≤ 12)
+  six-to-twelve =
+      let n = length (a .prefix) in
+      let (x, y) = both (leb 6 n) (leb n 12) (a .prefix-fits .shape) in
+      (leb→le 6 n x, leb→le n 12 y)
 
-  pub few-zeros : zeroBits (about s .parts) ≤ 24
-  few-zeros = subst (λ p. zeroBits p ≤ 24) parts-are (few-zeros-in (lineOf s .parts) narrow)
-
--- A filter and a company prefix, and a reference of table t behind them.
-module _ {body : Body} {ps : List (List ℕ)} (a : Partitioned body ps) {r : Record} (ef : r .filter ≡ value 10 (a .filter)) (en : r .digits ≡ length (a .company)) (ed : r .prefix ≡ value 10 (a .company)) where
-  company-of : Company r
-  company-of =
-      let ds = a .company in
-      let (x, y) = both (leb 6 (length ds)) (leb (length ds) 12) (a .company-fits .shape) in
-      record {
-        filter = rw ef (ltb→lt (value 10 (a .filter)) (2 ^ 3) (a .filter-fits .size));
-        least = rw en (leb→le 6 (length ds) x);
-        most = rw en (leb→le (length ds) 12 y);
-        prefix = rw (en, ed) (value-lt 10 ds (all-digits ds (a .company-fits .symbols)));
-      }
-
-  reference-of : {t : Table} {x : List ℕ} → Fit (reference t (rowOf (length (a .company)))) x → r .reference ≡ value 10 x → Reference t r
-  reference-of {t} {x} h ex = record {
-    company = company-of;
-    reference = rw (en, ex, ← eqb→eq (length x) (cell t (rowOf (length (a .company))) .1) (h .shape)) (value-lt 10 x (all-digits x (h .symbols)));
+  company-of : {r : Record} → r .digits ≡ length (a .prefix) → r .filter ≡ value 10 (a .filter) → r .prefix ≡ value 10 (a .prefix) → Company r
+  company-of en ef ed = record {
+    filter = rw ef (ltb→lt (value 10 (a .filter)) (2 ^ 3) (a .filter-fits .size));
+    least = rw en (six-to-twelve .0);
+    most = rw en (six-to-twelve .1);
+    prefix = rw (en, ed) (value-lt 10 (a .prefix) (all-digits (a .prefix) (a .prefix-fits .symbols)));
   }
+
+  reference-of : {t : Table} {x : List ℕ} {r : Record} → r .digits ≡ length (a .prefix) → Fit (rowDigits t (rowOf (length (a .prefix)))) x → r .reference ≡ value 10 x → Reference t r
+  reference-of {t} {x} en h ex = record {
+    least = rw en (six-to-twelve .0);
+    most = rw en (six-to-twelve .1);
+    small = rw (en, ex, ← eqb→eq (length x) (cell t (rowOf (length (a .prefix))) .1) (h .shape)) (value-lt 10 x (all-digits x (h .symbols)));
+  }
+
+  asset-of : {x : List ℕ} {r : Record} → r .digits ≡ length (a .prefix) → Fit (integer (assetBits (rowOf (length (a .prefix))))) x → r .serial ≡ value 10 x → Asset r
+  asset-of {x} en h ex = record { least = rw en (six-to-twelve .0); most = rw en (six-to-twelve .1); small = rw (en, ex) (ltb→lt (value 10 x) (2 ^ assetBits (rowOf (length (a .prefix)))) (h .size)) }
 
 -- A string with its zeros: n places are filled, of which the first k are taken.
 zeros-front : (m n : ℕ) → m ≤ n → take {A = ℕ} m (replicate n 0) ≡ replicate m 0
@@ -86,7 +85,7 @@ module _ (n : ℕ) (cs : List ℕ) (h : Fit (string n) cs) (l : (n ≡ 7 * (n / 
   string-groups = digits-take 128 20 (cs ++ replicate 20 0) (digits-append 128 cs (replicate 20 0) (characters-are cs (h .symbols) .1) (digits-zeros 128 20 (lit< tt)))
 
 -- The record of parts, and what is to be shown of it.
-abbrev recordWith : Scheme → RulesParts → List (List ℕ) → Record
+abbrev recordWith : Scheme → Parts → List (List ℕ) → Record
 recordWith s p ps = record {
   scheme = s;
   filter = filterOf p ps;
@@ -99,46 +98,37 @@ recordWith s p ps = record {
 }
 
 abbrev Packs : Scheme → Parts → List (List ℕ) → Type 0
-Packs s p ps = Keeps p (recordWith s (partsOf p) ps) × (packed p (recordWith s (partsOf p) ps) ≡ coded (laid (partsOf p)) ps)
+Packs s p ps = Keeps p (recordWith s p ps) × (packed p (recordWith s p ps) ≡ coded (laid p) ps)
 
 number : (n : ℕ) (ds : List ℕ) → n ≤ 57 → Fit (integer n) ds → Number n (value 10 ds)
 number n ds l h = record { narrow = l; small = ltb→lt (value 10 ds) (2 ^ n) (h .size) }
 
-asset-lt : (r : Row) (x : List ℕ) → Fit (referenceE r) x → value 10 x < 2 ^ assetOf r
-asset-lt (row p a b c d e) x h = ltb→lt (value 10 x) (2 ^ e) (h .size)
-
-asset-bits : (r : Row) (x : List ℕ) → partBits (referenceE r) x ≡ binary (assetOf r) (value 10 x)
-asset-bits (row p a b c d e) x = refl
-
-packs : (s : Scheme) (p : Parts) (ps : List (List ℕ)) → Narrow p → Fits (laid (partsOf p)) ps → Packs s p ps
-packs s (Integer t n) ps l h =
-    let a = partitioned (t then integer n) h in
-    let (x, y, e, i, j) = reference-and-last t (integer n) (length (a .company)) (a .rest-fits) in
-    subst⁻¹ (Packs s (Integer t n)) (a .parts ∙ ap (λ z. a .filter ∷ a .company ∷ z) e)
-    ((reference-of a refl refl refl i refl, number n y l j), simp append-assoc)
-packs s (String t n) ps l h =
-    let a = partitioned (t then string n) h in
-    let (x, y, e, i, j) = reference-and-last t (string n) (length (a .company)) (a .rest-fits) in
-    subst⁻¹ (Packs s (String t n)) (a .parts ∙ ap (λ z. a .filter ∷ a .company ∷ z) e)
-    ((reference-of a refl refl refl i refl, string-groups n y j l, l .2), rw (string-is n y j l) (simp append-assoc))
-packs s (Zeros t n) ps l h =
-    let a = partitioned (t zeros n) h in
-    let (x, e, i) = reference-alone t n (length (a .company)) (a .rest-fits) in
-    subst⁻¹ (Packs s (Zeros t n)) (a .parts ∙ ap (λ z. a .filter ∷ a .company ∷ z) e)
-    (reference-of a refl refl refl i refl, simp append-assoc)
-packs s Asset ps l h =
+packs : (s : Scheme) (p : Parts) (ps : List (List ℕ)) → Narrow p → Fits (laid p) ps → Packs s p ps
+packs s (F (Then t (Integer n))) ps l h =
+    let a = partitioned (Then t (Integer n)) h in
+    let (x, y, e, i, j) = reference-and-last t (Integer n) (length (a .prefix)) (a .rest-fits) in
+    subst⁻¹ (Packs s (F (Then t (Integer n)))) (a .parts ∙ ap (λ z. a .filter ∷ a .prefix ∷ z) e)
+    ((company-of a refl refl refl, (reference-of a refl i refl, number n y l j)), simp append-assoc)
+packs s (F (Then t (String n))) ps l h =
+    let a = partitioned (Then t (String n)) h in
+    let (x, y, e, i, j) = reference-and-last t (String n) (length (a .prefix)) (a .rest-fits) in
+    subst⁻¹ (Packs s (F (Then t (String n)))) (a .parts ∙ ap (λ z. a .filter ∷ a .prefix ∷ z) e)
+    ((company-of a refl refl refl, (reference-of a refl i refl, (string-groups n y j l, l .2))), rw (string-is n y j l) (simp append-assoc))
+packs s (F (Zeros t n)) ps l h =
+    let a = partitioned (Zeros t n) h in
+    let (x, e, i) = reference-alone t n (length (a .prefix)) (a .rest-fits) in
+    subst⁻¹ (Packs s (F (Zeros t n))) (a .parts ∙ ap (λ z. a .filter ∷ a .prefix ∷ z) e)
+    ((company-of a refl refl refl, reference-of a refl i refl), simp append-assoc)
+packs s (F E) ps l h =
     let a = partitioned E h in
-    let (x, e, i) = asset-alone (length (a .company)) (a .rest-fits) in
-    let r = rowOf (length (a .company)) in
-    subst⁻¹ (Packs s Asset) (a .parts ∙ ap (λ z. a .filter ∷ a .company ∷ z) e)
-    ((company-of a refl refl refl, asset-lt r x i), rw (asset-bits r x) (simp append-assoc))
+    let (x, e, i) = asset-alone (length (a .prefix)) (a .rest-fits) in
+    subst⁻¹ (Packs s (F E)) (a .parts ∙ ap (λ z. a .filter ∷ a .prefix ∷ z) e)
+    ((company-of a refl refl refl, asset-of a refl i refl), simp append-assoc)
 packs s (Integers a b c) ps l h =
     let (x, y, z, e, i, j, k) = general a b c h in
     subst⁻¹ (Packs s (Integers a b c)) e ((number a x (l .0) i, number b y (l .1) j, number c z (l .2) k), refl)
 
 pub tag-packs : (r : Record) (τ : Tag) → RecordIs r τ
-    → Keeps (lineOf (τ .scheme) .parts) r × (packed (lineOf (τ .scheme) .parts) r ≡ coded (layout (τ .scheme)) (τ .parts))
+    → Keeps (about (τ .scheme) .parts) r × (packed (about (τ .scheme) .parts) r ≡ coded (layout (τ .scheme)) (τ .parts))
 unfolding recordOf
-tag-packs r τ h =
-    let s = τ .scheme in
-    rw (h .same) (rw (parts-are s) at (packs s (lineOf s .parts) (τ .parts) (narrow s) (rw (parts-are s) (h .fits))))
+tag-packs r τ h = let s = τ .scheme in rw (h .same) (packs s (about s .parts) (τ .parts) (parts-narrow s) (h .fits))

@@ -11,7 +11,11 @@ use Rattle.numeral.specs.Numeral.{numeral, shortest, spread, gather}
 use Rattle.numeral.proofs.Values.{value-nil}
 use Rattle.rules.specs.Answers.{Answer, refused, taken, _>>=_, _>>_, demand}
 use Rattle.rules.specs.declared.Table.{Table}
-use Rattle.rules.specs.Schemes.{integer, string, reference as digitsOf, referenceE, Row, row, _then_, _zeros_, E, cell, rowAt, rowOf, prefixBits, prefixDigits}
+use Rattle.rules.specs.declared.Last.the-variants.{Integer, String}
+use Rattle.rules.specs.declared.Body.{Body}
+use Rattle.rules.specs.declared.Body.the-variants.{Then, Zeros, E}
+use Rattle.rules.specs.declared.Parts.the-variants.{F}
+use Rattle.rules.specs.Schemes.{rowDigits, assetBits, cell, rowAt, rowOf, prefixBits, prefixDigits}
 use Rattle.rules.specs.Grammar.{laid}
 use Rattle.rules.specs.Coding.{wordCount, bankSize}
 use Rattle.rules.specs.Conditions.{partitionIn, rowIn}
@@ -19,12 +23,9 @@ use Rattle.rules.specs.BankNumbers.{field, fieldIn, fieldsIn, stringIn, codeIn}
 use Rattle.rules.proofs.Rows.{row-fair}
 use Rattle.rules.proofs.CodeReads.{take-inside}
 use Rattle.rules.proofs.BankReads.{code-seen}
-use Rattle.scheme.specs.declared.lines.Parts.{Parts}
-use Rattle.scheme.specs.declared.lines.Parts.the-variants.{Integer, String, Zeros, Asset, Integers}
-use Rattle.scheme.specs.Lines.{partsOf, Tabled, Narrow}
-use Rattle.scheme.specs.Rows.{assetOf}
-use Rattle.bank.specs.Reader.{codeField}
-use Rattle.bank.specs.Reading.{shapeOf, groupsAt}
+use Rattle.scheme.specs.Outlines.{Narrow}
+use Rattle.bank.specs.BitReaders.{codeField}
+use Rattle.bank.specs.Reading.{prefixEnd, shapeOf, groupsAt}
 use Rattle.bank.proofs.Sizes.{Roomy}
 use Rattle.bank.proofs.Numbers.{decimal-at, small-prefix}
 
@@ -41,16 +42,9 @@ at-last : (x y z : List ℕ) (n : ℕ) (l : List ℕ) (a : Answer (List ℕ))
 at-last x y z n l (refused m) = refl
 at-last x y z n l (taken cs) = refl
 
-asset-is : (r : Row) → referenceE r ≡ integer (assetOf r)
-asset-is (row p a b c d e) = refl
-
--- no three integers have a partition table
-pub not-three : {x y z : ℕ} → Tabled (Integers x y z) → ⊥
-not-three f = let e : _≡_ {A = ℕ} 0 1 = cc (f .1) in omega arith
-
 -- The code bit of the reference.
 abbrev pub start : List ℕ → ℕ
-start b = 14 + prefixBits (rowIn b)
+start b = prefixEnd b
 
 -- The reference of table t, and the code bit behind it.
 abbrev pub reference : List ℕ → Table → ℕ
@@ -60,23 +54,21 @@ abbrev pub behind : List ℕ → Table → ℕ
 behind b t = start b + cell t (rowIn b) .0
 
 -- The parts behind the company prefix, where a string is the characters cs.
-abbrev pub shown : List ℕ → Parts → List ℕ → List (List ℕ)
-shown b (Integer t n) cs = numeral 10 (cell t (rowIn b) .1) (reference b t) ∷ shortest 10 (codeField b (behind b t) n) ∷ []
-shown b (String t n) cs = numeral 10 (cell t (rowIn b) .1) (reference b t) ∷ cs ∷ []
+abbrev pub shown : List ℕ → Body → List ℕ → List (List ℕ)
+shown b (Then t (Integer n)) cs = numeral 10 (cell t (rowIn b) .1) (reference b t) ∷ shortest 10 (codeField b (behind b t) n) ∷ []
+shown b (Then t (String n)) cs = numeral 10 (cell t (rowIn b) .1) (reference b t) ∷ cs ∷ []
 shown b (Zeros t n) cs = numeral 10 (cell t (rowIn b) .1) (reference b t) ∷ []
-shown b Asset cs = shortest 10 (codeField b (start b) (assetOf (rowIn b))) ∷ []
-shown b (Integers x y z) cs = []
+shown b E cs = shortest 10 (codeField b (start b) (assetBits (rowIn b))) ∷ []
 
 -- What is read of all parts, once the string is read.
-abbrev pub answered : List ℕ → Parts → Answer (List ℕ) → Answer (List (List ℕ))
-answered b p a = a >>= λ cs. taken (shortest 10 (codeField b 8 3) ∷ numeral 10 (prefixDigits (rowIn b)) (codeField b 14 (prefixBits (rowIn b))) ∷ shown b p cs)
+abbrev pub answered : List ℕ → Body → Answer (List ℕ) → Answer (List (List ℕ))
+answered b body a = a >>= λ cs. taken (shortest 10 (codeField b 8 3) ∷ numeral 10 (prefixDigits (rowIn b)) (codeField b 14 (prefixBits (rowIn b))) ∷ shown b body cs)
 
-abbrev pub stringOf : List ℕ → Parts → Answer (List ℕ)
-stringOf b (Integer t n) = taken []
-stringOf b (String t n) = stringIn (groupsAt b (behind b t) (n / 7))
+abbrev pub stringOf : List ℕ → Body → Answer (List ℕ)
+stringOf b (Then t (Integer n)) = taken []
+stringOf b (Then t (String n)) = stringIn (groupsAt b (behind b t) (n / 7))
 stringOf b (Zeros t n) = taken []
-stringOf b Asset = taken []
-stringOf b (Integers x y z) = taken []
+stringOf b E = taken []
 
 module _ (b : List ℕ) (long : bankSize (wordCount b) ≤ length b) (row : partitionIn b < 7) (small : codeField b 14 (prefixBits (rowIn b)) < 10 ^ prefixDigits (rowIn b)) where
   -- the digits of the prefix pick the row
@@ -84,33 +76,30 @@ module _ (b : List ℕ) (long : bankSize (wordCount b) ≤ length b) (row : part
   picked = ap rowAt (row-fair (partitionIn b) row .picked)
 
   module _ (t : Table) (inside : behind b t ≤ 16 * wordCount b) where
-    cell-at : fieldIn (digitsOf t (rowOf (prefixDigits (rowIn b)))) (drop (start b) (codeIn b))
+    cell-at : fieldIn (rowDigits t (rowOf (prefixDigits (rowIn b)))) (drop (start b) (codeIn b))
         ≡ (demand (ltb (reference b t) (10 ^ cell t (rowIn b) .1)) 18 >> taken (record { symbols = numeral 10 (cell t (rowIn b) .1) (reference b t); rest = drop (behind b t) (codeIn b) }))
     cell-at = rw picked (decimal-at b long (start b) (cell t (rowIn b) .0) inside 18 (cell t (rowIn b) .1))
 
-    cell-large : 10 ^ cell t (rowIn b) .1 ≤ reference b t → fieldIn (digitsOf t (rowOf (prefixDigits (rowIn b)))) (drop (start b) (codeIn b)) ≡ refused 18
+    cell-large : 10 ^ cell t (rowIn b) .1 ≤ reference b t → fieldIn (rowDigits t (rowOf (prefixDigits (rowIn b)))) (drop (start b) (codeIn b)) ≡ refused 18
     cell-large h = cell-at ∙ rw (le-ltb (reference b t) (10 ^ cell t (rowIn b) .1) h)
 
     cell-small : reference b t < 10 ^ cell t (rowIn b) .1
-        → fieldIn (digitsOf t (rowOf (prefixDigits (rowIn b)))) (drop (start b) (codeIn b)) ≡ taken (record { symbols = numeral 10 (cell t (rowIn b) .1) (reference b t); rest = drop (behind b t) (codeIn b) })
+        → fieldIn (rowDigits t (rowOf (prefixDigits (rowIn b)))) (drop (start b) (codeIn b)) ≡ taken (record { symbols = numeral 10 (cell t (rowIn b) .1) (reference b t); rest = drop (behind b t) (codeIn b) })
     cell-small h = cell-at ∙ rw (lt-ltb (reference b t) (10 ^ cell t (rowIn b) .1) h)
 
-  pub large-reference : (p : Parts) → Tabled p → Roomy (wordCount b) (rowIn b) (shapeOf p (rowIn b))
-      → 10 ^ shapeOf p (rowIn b) .cell .digits ≤ codeField b (start b) (shapeOf p (rowIn b) .cell .bits) → fieldsIn (laid (partsOf p)) (drop 8 (codeIn b)) ≡ refused 18
-  large-reference (Integer t n) f r h = small-prefix b long (t then integer n) (omega arith) (omega arith) small ∙ rw (cell-large t (omega arith) h)
-  large-reference (String t n) f r h = small-prefix b long (t then string n) (omega arith) (omega arith) small ∙ rw (cell-large t (omega arith) h)
-  large-reference (Zeros t n) f r h = small-prefix b long (t zeros n) (omega arith) (omega arith) small ∙ rw (cell-large t (omega arith) h)
-  large-reference Asset f r h = absurd (omega (arith, no-bits b (start b)))
-  large-reference (Integers x y z) f r h = absurd (not-three f)
+  pub large-reference : (body : Body) → Roomy (wordCount b) (rowIn b) (shapeOf body (rowIn b))
+      → 10 ^ shapeOf body (rowIn b) .cell .digits ≤ codeField b (start b) (shapeOf body (rowIn b) .cell .bits) → fieldsIn (laid (F body)) (drop 8 (codeIn b)) ≡ refused 18
+  large-reference (Then t (Integer n)) r h = small-prefix b long (Then t (Integer n)) (omega arith) (omega arith) small ∙ rw (cell-large t (omega arith) h)
+  large-reference (Then t (String n)) r h = small-prefix b long (Then t (String n)) (omega arith) (omega arith) small ∙ rw (cell-large t (omega arith) h)
+  large-reference (Zeros t n) r h = small-prefix b long (Zeros t n) (omega arith) (omega arith) small ∙ rw (cell-large t (omega arith) h)
+  large-reference E r h = absurd (omega (arith, no-bits b (start b)))
 
-  pub small-reference : (p : Parts) → Tabled p → Roomy (wordCount b) (rowIn b) (shapeOf p (rowIn b)) → Narrow p
-      → codeField b (start b) (shapeOf p (rowIn b) .cell .bits) < 10 ^ shapeOf p (rowIn b) .cell .digits → fieldsIn (laid (partsOf p)) (drop 8 (codeIn b)) ≡ answered b p (stringOf b p)
-  small-reference (Integer t n) f r w h =
-      small-prefix b long (t then integer n) (omega arith) (omega arith) small ∙ rw (cell-small t (omega arith) h, ← code-seen b long (behind b t) n (omega arith))
-  small-reference (String t n) f r w h =
-      small-prefix b long (t then string n) (omega arith) (omega arith) small
+  pub small-reference : (body : Body) → Roomy (wordCount b) (rowIn b) (shapeOf body (rowIn b)) → Narrow (F body)
+      → codeField b (start b) (shapeOf body (rowIn b) .cell .bits) < 10 ^ shapeOf body (rowIn b) .cell .digits → fieldsIn (laid (F body)) (drop 8 (codeIn b)) ≡ answered b body (stringOf b body)
+  small-reference (Then t (Integer n)) r w h =
+      small-prefix b long (Then t (Integer n)) (omega arith) (omega arith) small ∙ rw (cell-small t (omega arith) h, ← code-seen b long (behind b t) n (omega arith))
+  small-reference (Then t (String n)) r w h =
+      small-prefix b long (Then t (String n)) (omega arith) (omega arith) small
       ∙ rw (cell-small t (omega arith) h, groups-seen b (behind b t) n (w .0) (omega arith)) (at-last _ _ _ n (drop (behind b t) (codeIn b)) (stringIn (groupsAt b (behind b t) (n / 7))))
-  small-reference (Zeros t n) f r w h = small-prefix b long (t zeros n) (omega arith) (omega arith) small ∙ rw (cell-small t (omega arith) h)
-  small-reference Asset f r w h =
-      small-prefix b long E (omega arith) (omega arith) small ∙ rw (picked, asset-is (rowIn b), ← code-seen b long (start b) (assetOf (rowIn b)) (omega arith))
-  small-reference (Integers x y z) f r w h = absurd (not-three f)
+  small-reference (Zeros t n) r w h = small-prefix b long (Zeros t n) (omega arith) (omega arith) small ∙ rw (cell-small t (omega arith) h)
+  small-reference E r w h = small-prefix b long E (omega arith) (omega arith) small ∙ rw (picked, ← code-seen b long (start b) (assetBits (rowIn b)) (omega arith))

@@ -1,5 +1,5 @@
 -- The company prefix, in the code's own terms: P is the partition value that is read, and k the bits and digits of its row.
-use Prim.Native.Nat.{ℕ, _^_, _≤_, _<_}
+use Prim.Native.Nat.{ℕ, _+_, _^_, _≤_, _<_}
 use mathlib.Core.Path.{_≡_, sym, ap, _∙_}
 use mathlib.Core.List.{List}
 use native.Mathlib.Omega.{arith}
@@ -11,18 +11,18 @@ use Rattle.rules.specs.Conditions.{rowIn}
 use Rattle.rules.specs.BankNumbers.{tagOfBank}
 use Rattle.rules.proofs.Rows.{row-fair}
 use Rattle.rules.proofs.BankReads.{at-lt}
-use Rattle.scheme.specs.declared.lines.Parts.{Parts}
+use Rattle.rules.specs.declared.Body.{Body}
+use Rattle.rules.specs.declared.Parts.the-variants.{F}
 use Rattle.scheme.specs.declared.rows.Cell.{Cell}
 use Rattle.scheme.specs.Rows.{prefixOf}
-use Rattle.scheme.specs.Lines.{Tabled}
-use Rattle.bank.specs.Reader.{LiesInCode, codeField}
-use Rattle.bank.specs.Reading.{Coded, Begun}
+use Rattle.bank.specs.BitReaders.{LiesInCode, codeField}
+use Rattle.bank.specs.Reading.{Coded, prefixEnd, Begun}
 use Rattle.bank.proofs.Sizes.{roomy}
 use Rattle.bank.proofs.Answers as Answers
 
-module _ (b : List ℕ) (s : Scheme) (p : Parts) (c : Coded b s p) (f : Tabled p) (P : ℕ) (eP : P ≡ codeField b 11 3) where
+module _ (b : List ℕ) (s : Scheme) (body : Body) (c : Coded b s (F body)) (P : ℕ) (eP : P ≡ codeField b 11 3) where
   pub no-row : P ≡ 7 → tagOfBank b ≡ refused 16
-  no-row e = Answers.no-row b s p c f (sym eP ∙ e)
+  no-row e = Answers.no-row b s body c (sym eP ∙ e)
 
   module _ (row : ¬ (P ≡ 7)) where
     pub listed : P < 7
@@ -35,7 +35,10 @@ module _ (b : List ℕ) (s : Scheme) (p : Parts) (c : Coded b s p) (f : Tabled p
       pub prefix-lies : LiesInCode 14 (k .bits) (length b)
       prefix-lies =
           let n : k .bits ≡ prefixBits (rowAt P) = ap (λ k. k .bits) ek in
-          Answers.lies b s p c 14 (k .bits) (omega (arith, row-fair P listed .narrow)) (omega (arith, roomy s p (c .parts) P listed))
+          Answers.lies b s (F body) c 14 (k .bits) (omega (arith, row-fair P listed .narrow)) (omega (arith, roomy s body (c .parts) P listed))
+
+      pub prefix-ends : prefixEnd b ≡ 14 + k .bits
+      prefix-ends = rw (ek, eP)
 
       -- x is the prefix, and y is one more than it may be
       module _ (x y : ℕ) (ex : x ≡ codeField b 14 (k .bits)) (ey : y ≡ 10 ^ k .digits) where
@@ -49,8 +52,8 @@ module _ (b : List ℕ) (s : Scheme) (p : Parts) (c : Coded b s p) (f : Tabled p
         most = ey ∙ ap (λ k. 10 ^ k .digits) cell-is
 
         pub large-prefix : y ≤ x → tagOfBank b ≡ refused 17
-        large-prefix h = Answers.large-prefix b s p c f (rw (← eP) listed) (rw (← most, ← value-is) h)
+        large-prefix h = Answers.large-prefix b s body c (rw (← eP) listed) (rw (← most, ← value-is) h)
 
-        pub begun : x < y → (z : ℕ) → z ≡ codeField b 8 3 → Begun b s p (record { filter = z; row = P; cell = k; prefix = x })
+        pub begun : x < y → (z : ℕ) → z ≡ codeField b 8 3 → Begun b s body (record { filter = z; row = P; digits = k .digits; prefix = x })
         begun h z ez =
-            record { coded = c; tabled = f; company = rw (ez, value-is, cell-is, eP); listed = rw (← eP) listed; small = rw (← most, ← value-is) h }
+            record { coded = c; company = rw (ez, value-is, cell-is, eP); listed = rw (← eP) listed; small = rw (← most, ← value-is) h }

@@ -14,25 +14,28 @@ use Rattle.numeral.proofs.Shortest.{value-shortest}
 use Rattle.numeral.proofs.Spreads.{length-gather}
 use Rattle.rules.specs.Answers.{refused, taken, _>>=_}
 use Rattle.rules.specs.declared.Scheme.{Scheme}
-use Rattle.rules.specs.Schemes.{Parts as RulesParts, about, cell, prefixBits, prefixDigits}
+use Rattle.rules.specs.declared.Last.the-variants.{Integer, String}
+use Rattle.rules.specs.declared.Body.{Body}
+use Rattle.rules.specs.declared.Body.the-variants.{Then, Zeros, E}
+use Rattle.rules.specs.declared.Parts.{Parts}
+use Rattle.rules.specs.declared.Parts.the-variants.{F}
+use Rattle.rules.specs.Schemes.{about, cell, prefixBits, prefixDigits}
 use Rattle.rules.specs.Conditions.{rowIn}
 use Rattle.rules.specs.BankNumbers.{stringIn}
 use Rattle.alphabet.specs.Strings.{countOf}
 use Rattle.alphabet.proofs.Kept.{first-characters}
 use Rattle.rules.proofs.Groups.{StringIs, string-settled}
 use Rattle.alphabet.proofs.Counts.{count-taken, count-refused}
-use Rattle.scheme.specs.declared.lines.Parts.{Parts}
-use Rattle.scheme.specs.declared.lines.Parts.the-variants.{Integer, String, Zeros, Asset, Integers}
 use Rattle.scheme.specs.declared.record.Record.{Record}
-use Rattle.scheme.specs.Lines.{partsOf, Tabled, Narrow}
+use Rattle.scheme.specs.Outlines.{Narrow}
 use Rattle.scheme.specs.Records.{filterOf, prefixOf, digitsOf, referenceOf, serialOf, charactersOf, padded, recordOf, readingOf}
-use Rattle.bank.specs.Reader.{codeField}
+use Rattle.bank.specs.BitReaders.{codeField}
 use Rattle.bank.specs.declared.reading.Shape.{Shape}
 use Rattle.bank.specs.Reading.{shapeOf, groupsAt}
-use Rattle.bank.proofs.Parts.{start, answered, stringOf, no-bits, not-three}
+use Rattle.bank.proofs.Parts.{start, answered, stringOf, no-bits}
 
 -- the record of parts p
-pub record-by : (s : Scheme) (p : RulesParts) (ps : List (List ℕ)) → p ≡ about s .parts
+pub record-by : (s : Scheme) (p : Parts) (ps : List (List ℕ)) → about s .parts ≡ p
     → recordOf (record { scheme = s; parts = ps }) ≡ record { scheme = s; filter = filterOf p ps; prefix = prefixOf p ps; digits = digitsOf p ps; reference = referenceOf p ps; serial = serialOf p ps; characters = padded (charactersOf p ps); count = length (charactersOf p ps) }
 unfolding recordOf
 record-by s p ps e = rw e
@@ -55,12 +58,11 @@ no-groups b c = numeral-nil _ _
 abbrev pub groupsIn : List ℕ → Shape → List ℕ
 groupsIn b h = groupsAt b (start b + h .cell .bits) (h .groups)
 
-pub string-refused : (b : List ℕ) (p : Parts) → ¬ (shapeOf p (rowIn b) .groups ≡ 0) → 0 ≡ countOf (stringIn (groupsIn b (shapeOf p (rowIn b)))) → stringOf b p ≡ refused 19
-string-refused b (Integer t n) h e = absurd (h refl)
-string-refused b (String t n) h e = count-refused (groupsIn b (shapeOf (String t n) (rowIn b))) 0 e refl
+pub string-refused : (b : List ℕ) (body : Body) → ¬ (shapeOf body (rowIn b) .groups ≡ 0) → 0 ≡ countOf (stringIn (groupsIn b (shapeOf body (rowIn b)))) → stringOf b body ≡ refused 19
+string-refused b (Then t (Integer n)) h e = absurd (h refl)
+string-refused b (Then t (String n)) h e = count-refused (groupsIn b (shapeOf (Then t (String n)) (rowIn b))) 0 e refl
 string-refused b (Zeros t n) h e = absurd (h refl)
-string-refused b Asset h e = absurd (h refl)
-string-refused b (Integers x y z) h e = absurd (h refl)
+string-refused b E h e = absurd (h refl)
 
 -- The record of the parts behind a prefix that is not too large, nor its reference; the string, if any, has n characters.
 module _ (b : List ℕ) (s : Scheme) (small : codeField b 14 (prefixBits (rowIn b)) < 10 ^ prefixDigits (rowIn b)) where
@@ -77,17 +79,16 @@ module _ (b : List ℕ) (s : Scheme) (small : codeField b 14 (prefixBits (rowIn 
         count = n;
       }
 
-  pub record-made : (p : Parts) → partsOf p ≡ about s .parts → Tabled p → Narrow p → shapeOf p (rowIn b) .groups ≤ 20
-      → codeField b (start b) (shapeOf p (rowIn b) .cell .bits) < 10 ^ shapeOf p (rowIn b) .cell .digits
-      → (n : ℕ) → n ≡ countOf (stringIn (groupsIn b (shapeOf p (rowIn b)))) → (¬ (n ≡ 0)) ⊎ (shapeOf p (rowIn b) .groups ≡ 0)
-      → readingOf (answered b p (stringOf b p) >>= λ ps. taken (record { scheme = s; parts = ps })) ≡ record { number = 0; tag = made (shapeOf p (rowIn b)) n }
-  record-made (Integer t n) e f w k h m q o = rw (record-by s _ _ e, value-shortest 10 (lit< tt), value-numeral-lt 10 _ _ small, length-numeral, value-numeral-lt 10 _ _ h, value-shortest 10 (lit< tt), q, no-groups)
-  record-made (String t n) e f w k h m q (inl o) =
+  pub record-made : (body : Body) → about s .parts ≡ F body → Narrow (F body) → shapeOf body (rowIn b) .groups ≤ 20
+      → codeField b (start b) (shapeOf body (rowIn b) .cell .bits) < 10 ^ shapeOf body (rowIn b) .cell .digits
+      → (n : ℕ) → n ≡ countOf (stringIn (groupsIn b (shapeOf body (rowIn b)))) → (¬ (n ≡ 0)) ⊎ (shapeOf body (rowIn b) .groups ≡ 0)
+      → readingOf (answered b body (stringOf b body) >>= λ ps. taken (record { scheme = s; parts = ps })) ≡ record { number = 0; tag = made (shapeOf body (rowIn b)) n }
+  record-made (Then t (Integer n)) e w k h m q o = rw (record-by s _ _ e, value-shortest 10 (lit< tt), value-numeral-lt 10 _ _ small, length-numeral, value-numeral-lt 10 _ _ h, value-shortest 10 (lit< tt), q, no-groups)
+  record-made (Then t (String n)) e w k h m q (inl o) =
       let g = groupsAt b (start b + cell t (rowIn b) .0) (n / 7) in
       let read : stringIn g ≡ taken (take m g) = count-taken g m q o in
       let count : m ≡ length (take m g) = rw read at q in
       rw (read, record-by s _ _ e, value-shortest 10 (lit< tt), value-numeral-lt 10 _ _ small, length-numeral, value-numeral-lt 10 _ _ h, no-bits, padded-groups g (take m g) (n / 7) (length-gather 2 7 (n / 7) _) k read, ← count)
-  record-made (String t n) e f w k h m q (inr o) = absurd (omega arith)
-  record-made (Zeros t n) e f w k h m q o = rw (record-by s _ _ e, value-shortest 10 (lit< tt), value-numeral-lt 10 _ _ small, length-numeral, value-numeral-lt 10 _ _ h, no-bits, q, no-groups)
-  record-made Asset e f w k h m q o = rw (record-by s _ _ e, value-shortest 10 (lit< tt), value-numeral-lt 10 _ _ small, length-numeral, value-shortest 10 (lit< tt), no-bits, add-zero (start b), q, no-groups)
-  record-made (Integers x y z) e f w k h m q o = absurd (not-three f)
+  record-made (Then t (String n)) e w k h m q (inr o) = absurd (omega arith)
+  record-made (Zeros t n) e w k h m q o = rw (record-by s _ _ e, value-shortest 10 (lit< tt), value-numeral-lt 10 _ _ small, length-numeral, value-numeral-lt 10 _ _ h, no-bits, q, no-groups)
+  record-made E e w k h m q o = rw (record-by s _ _ e, value-shortest 10 (lit< tt), value-numeral-lt 10 _ _ small, length-numeral, value-shortest 10 (lit< tt), no-bits, add-zero (start b), q, no-groups)

@@ -1,4 +1,5 @@
--- What the readers and the writers of a bank are measured by, beside the written rules.
-pub mod Reader
+-- The terms in which the contracts of this crate speak, beside the written rules.
+pub mod BitReaders
+pub mod Controls
 pub mod Reading
 pub mod Writing

@@ -4,14 +4,7 @@ ghost use Prim.Native.Nat.{_+_, _≤_, min};
 ghost use lib.ListN.{length, take, drop};
 ghost use Rattle.numeral.specs.Numeral.{value, numeral, Digits, splice};
 
-// How many of the characters that are left come next.
-pub fn next(left: usize) -> usize
-    ensures { λ r. ⌜ r ≡ min left 8 ⌝ }
-{
-    if left < 8 { left } else { 8 }
-}
-
-// The number that the n characters from index `from` on are.
+// The n characters from index `from` on, joined into one number.
 pub fn joined(characters: &[u8], from: usize, n: usize) -> u64
     requires { ⌜ (n ≤ 8) × (from + n ≤ length (now characters)) × Digits 128 (now characters) ⌝ }
     ensures { λ r. ⌜ r ≡ value 128 (take n (drop from (now (characters .entry)))) ⌝ }
@@ -25,8 +18,8 @@ pub fn joined(characters: &[u8], from: usize, n: usize) -> u64
     v
 }
 
-// Stores the n characters that the number v is from index `from` on, the last one first.
-pub fn part(characters: &mut [u8], from: usize, n: usize, v: u64)
+// Splits the number v into n characters, and stores them from index `from` on, the last one first.
+pub fn split(characters: &mut [u8], from: usize, n: usize, v: u64)
     requires { ⌜ from + n ≤ length (now characters) ⌝ }
     ensures { λ _. ⌜ now (characters .exit) ≡ splice (now (characters .entry)) from (numeral 128 n v) ⌝ }
 {

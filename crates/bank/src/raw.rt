@@ -1,48 +1,24 @@
-// The raw line of a bank (document 01, "The bank").
-ghost use mathlib.Core.Path.{_≡_};
+// The raw line of a bank (document 01, "The bank"). Each `put_` function writes a piece of it from index `at` on, and returns the index
+// after the piece.
+use super::bitreader::field_at;
+use super::control::size;
+use scheme::counts::BankAddress;
+use scheme::counts::CodeBit;
 ghost use mathlib.Core.List.{_++_};
+ghost use mathlib.Core.Path.{_≡_};
 ghost use Prim.Native.Nat.{_+_, _*_, _≤_, _<_};
 ghost use lib.ListN.{length, drop};
-ghost use Rattle.numeral.specs.Numeral.{size, shortest, splice};
-ghost use Rattle.rules.specs.Bytes.{bytes, digitsText, hexText};
-ghost use Rattle.rules.specs.Coding.{wordCount, bankSize};
+ghost use Rattle.digits.specs.Pieces.{Puts};
+ghost use Rattle.rules.specs.Bytes.{bytes, hexText};
+ghost use Rattle.rules.specs.Answers.{taken};
+ghost use Rattle.rules.specs.BankNumbers.{wordsIn};
 ghost use Rattle.rules.specs.Raw.{afi, rawText};
+ghost use Rattle.rules.specs.Calls.{textRoom};
 
-// The word count W, in the upper five bits of the first byte.
-pub fn words(bank: &[u8]) -> usize
-    requires { ⌜ 2 ≤ length (now bank) ⌝ }
-    ensures { λ r. ⌜ r ≡ wordCount (now (bank .entry)) ⌝ }
-{
-    (bank[0] / 8) as usize
-}
-
-// How many digits the bit total of so many words has: 0, or 16 to 496.
-fn total_digits(count: usize) -> usize
-    requires { ⌜ count < 32 ⌝ }
-    ensures { λ r. ⌜ r ≡ size 10 (16 * count) ⌝ }
-{
-    if count == 0 {
-        return 1;
-    }
-    if count < 7 { 2 } else { 3 }
-}
-
-// Writes the bit total of so many words from index `at` on, and returns the index after it.
-fn put_total(out: &mut [u8], at: usize, count: usize) -> usize
-    requires { ⌜ (count < 32) × (at + size 10 (16 * count) ≤ length (now out)) ⌝ }
-    ensures { λ r. ⌜ r ≡ at + size 10 (16 * count) ⌝ }
-    ensures { λ _. ⌜ now (out .exit) ≡ splice (now (out .entry)) at (digitsText (shortest 10 (16 * count))) ⌝ }
-{
-    let n = total_digits(count);
-    digits::put_digits(out, at, n, (16 * count) as u64);
-    at + n
-}
-
-// Writes `.x` and src in hexadecimal from index `at` on, and returns the index after it.
+// `.x`, and src in hexadecimal.
 fn put_field(out: &mut [u8], at: usize, src: &[u8]) -> usize
     requires { ⌜ at + 2 + 2 * length (now src) ≤ length (now out) ⌝ }
-    ensures { λ r. ⌜ r ≡ at + 2 + 2 * length (now (src .entry)) ⌝ }
-    ensures { λ _. ⌜ now (out .exit) ≡ splice (now (out .entry)) at (bytes ".x" ++ hexText (now (src .entry))) ⌝ }
+    ensures { λ r. ⌜ Puts (bytes ".x" ++ hexText (now (src .entry))) at (now (out .entry)) r (now (out .exit)) ⌝ }
 {
     out[at] = b'.';
     out[at + 1] = b'x';
@@ -50,28 +26,27 @@ fn put_field(out: &mut [u8], at: usize, src: &[u8]) -> usize
     at + 2 + 2 * src.len()
 }
 
-// Writes the AFI from index `at` on, if the toggle, the lowest bit of the first byte, is 1; returns the index after it.
+// The AFI, if the toggle is 1.
 fn put_afi(out: &mut [u8], at: usize, bank: &[u8]) -> usize
     requires { ⌜ (2 ≤ length (now bank)) × (at + 4 ≤ length (now out)) ⌝ }
-    ensures { λ r. ⌜ r ≡ at + length (afi (now (bank .entry))) ⌝ }
-    ensures { λ _. ⌜ now (out .exit) ≡ splice (now (out .entry)) at (afi (now (bank .entry))) ⌝ }
+    ensures { λ r. ⌜ Puts (afi (now (bank .entry))) at (now (out .entry)) r (now (out .exit)) ⌝ }
 {
-    if bank[0] % 2 == 0 {
+    if field_at(bank, BankAddress(0x17), 1) == 0 {
         return at;
     }
-    put_field(out, at, &bank[1..2])
+    let afi = [field_at(bank, BankAddress(0x18), 8) as u8];
+    put_field(out, at, &afi)
 }
 
-// Writes the raw line of a bank from the output's start on, and returns its length.
-pub fn write(bank: &[u8], out: &mut [u8]) -> usize
-    requires { ⌜ (2 ≤ length (now bank)) × (bankSize (wordCount (now bank)) ≤ length (now bank)) × (160 ≤ length (now out)) ⌝ }
-    ensures { λ n. ⌜ n ≡ length (rawText (now (bank .entry))) ⌝ }
-    ensures { λ _. ⌜ now (out .exit) ≡ rawText (now (bank .entry)) ++ drop (length (rawText (now (bank .entry)))) (now (out .entry)) ⌝ }
+// Writes the raw line of a bank of so many words from the output's start on, and returns its length.
+pub fn write(bank: &[u8], words: usize, out: &mut [u8]) -> usize
+    requires { ⌜ (wordsIn (now bank) ≡ taken words) × (textRoom ≤ length (now out)) ⌝ }
+    ensures { λ n. ⌜ Puts (rawText (now (bank .entry))) 0 (now (out .entry)) n (now (out .exit)) ⌝ }
 {
-    let count = words(bank);
-    digits::put_bytes(out, 0, b"urn:epc:raw:");
-    let total = put_total(out, 12, count);
+    let start = digits::put_bytes(out, 0, b"urn:epc:raw:");
+    let total = digits::put_decimal(out, start, (16 * words) as u64);
     let end = put_afi(out, total, bank);
-    let size = 2 + 2 * count;
-    put_field(out, end, &bank[2..size])
+    let code = CodeBit(0).address().byte();
+    let behind = size(words);
+    put_field(out, end, &bank[code..behind])
 }

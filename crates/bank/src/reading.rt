@@ -1,29 +1,31 @@
-// A bank to the record of its tag: the rules 9 to 19, in their order (document 01, "Numbers given, and when"). Each function goes on where the one before it
-// stopped, and answers what the whole bank reads as.
+// A bank to the record of its tag: the rules 9 to 19, in their order (document 01, "Numbers given, and when"). Each function goes on where
+// the one before it stopped, and returns the whole bank's result.
+use super::bitreader::take;
+use super::control;
 use super::eights;
-use super::reader;
+use rules::Body;
+use rules::Last;
+use rules::Parts;
 use rules::Scheme;
-use scheme::counts::BankAddress;
 use scheme::counts::CodeBit;
-use scheme::lines;
-use scheme::lines::Headed;
-use scheme::lines::Parts;
+use scheme::outlines::Headed;
+use scheme::outlines::about;
+use scheme::outlines::by_header;
 use scheme::record::Reading;
 use scheme::record::Record;
 use scheme::record::refused;
+use scheme::refusal;
 use scheme::rows;
 use scheme::rows::Cell;
 ghost use mathlib.Core.Path.{_≡_};
-ghost use Prim.Native.Nat.{_+_, _-_, _*_, _^_, _≤_, _<_};
+ghost use Prim.Native.Nat.{_-_, _^_, _≤_, _<_};
 ghost use mathlib.Core.List.{_++_};
 ghost use lib.ListN.{length, replicate};
 ghost use Rattle.rules.specs.Schemes.{zeroBits, rowAt};
-ghost use Rattle.rules.specs.Coding.{wordCount, bankSize};
-ghost use Rattle.rules.specs.BankNumbers.{tagOfBank, stringIn};
-ghost use Rattle.alphabet.specs.Strings.{countOf};
-ghost use Rattle.scheme.specs.Lines.{partsOf, Tabled};
+ghost use Rattle.rules.specs.Answers.{taken};
+ghost use Rattle.rules.specs.BankNumbers.{controlIn, tagOfBank};
 ghost use Rattle.scheme.specs.Records.{readingOf};
-ghost use Rattle.bank.specs.Reading.{Clean, Coded, Begun, shapeOf, groupsAt};
+ghost use Rattle.bank.specs.Reading.{Coded, Begun, headerEnd, prefixEnd, shapeOf, groupsAt, GroupsLie};
 
 // Ten to the power of a number of digits.
 fn power(digits: usize) -> u64
@@ -49,126 +51,132 @@ fn power(digits: usize) -> u64
 
 // The zero bits at the end of the code.
 fn zeros(p: Parts) -> usize
-    ensures { λ r. ⌜ r ≡ zeroBits (partsOf p) ⌝ }
+    ensures { λ r. ⌜ r ≡ zeroBits p ⌝ }
 {
     match p {
-        Parts::Zeros(_, n) => n,
-        _ => 0,
+        Parts::F(body) => match body {
+            Body::Then(_, _) => 0,
+            Body::Zeros(_, n) => n,
+            Body::E => 0,
+        },
+        Parts::Integers(_, _, _) => 0,
     }
 }
 
-// What stands behind the company prefix: the bits and digits of the reference, the bits of an integer, the groups of a string.
+// What stands behind the company prefix: the bits and digits of the reference, the bits of an integer, the groups of a string. What a scheme
+// does not have takes no bits.
 struct Shape {
     cell: Cell,
     serial: usize,
     groups: usize,
 }
 
-fn shape_in(p: Parts, row: usize) -> Shape
+fn shape_in(body: Body, row: usize) -> Shape
     requires { ⌜ row < 7 ⌝ }
-    ensures { λ r. ⌜ r ≡ shapeOf p (rowAt row) ⌝ }
+    ensures { λ r. ⌜ r ≡ shapeOf body (rowAt row) ⌝ }
 {
-    match p {
-        Parts::Integer(t, n) => Shape {
-            cell: rows::reference(t, row),
-            serial: n,
-            groups: 0,
+    match body {
+        Body::Then(t, l) => match l {
+            Last::Integer(n) => Shape {
+                cell: rows::reference(t, row),
+                serial: n,
+                groups: 0,
+            },
+            Last::String(n) => Shape {
+                cell: rows::reference(t, row),
+                serial: 0,
+                groups: n / 7,
+            },
         },
-        Parts::String(t, n) => Shape {
+        Body::Zeros(t, _) => Shape {
             cell: rows::reference(t, row),
             serial: 0,
-            groups: n / 7,
-        },
-        Parts::Zeros(t, _) => Shape {
-            cell: rows::reference(t, row),
-            serial: 0,
             groups: 0,
         },
-        Parts::Asset => Shape {
+        Body::E => Shape {
             cell: Cell { bits: 0, digits: 0 },
             serial: rows::asset(row),
-            groups: 0,
-        },
-        Parts::Integers(_, _, _) => Shape {
-            cell: Cell { bits: 0, digits: 0 },
-            serial: 0,
             groups: 0,
         },
     }
 }
 
-// The k groups of seven bits from code bit `at` on, zeros behind them.
-fn groups(bank: &[u8], at: usize, k: usize) -> [u8; 20]
-    requires { ⌜ (k ≤ 20) × (at ≤ 512) × (16 + at + 7 * k ≤ 8 * length (now bank)) ⌝ }
-    ensures { λ r. ⌜ r ≡ groupsAt (now (bank .entry)) at k ++ replicate (20 - k) 0 ⌝ }
+// The k groups of seven bits from a code bit on, zeros behind them.
+fn groups(bank: &[u8], from: CodeBit, k: usize) -> [u8; 20]
+    requires { ⌜ GroupsLie (from .0) k (length (now bank)) ⌝ }
+    ensures { λ r. ⌜ r ≡ groupsAt (now (bank .entry)) (from .0) k ++ replicate (20 - k) 0 ⌝ }
 {
     let mut groups = [0u8; 20];
+    let mut at = from;
     let mut i = 0;
     while i < k {
-        let n = eights::next(k - i);
-        let v = reader::field(bank, CodeBit(at + 7 * i), 7 * n);
-        eights::part(&mut groups, i, n, v);
+        let n = bits::least(k - i, 8);
+        let next = take(bank, at, 7 * n);
+        eights::split(&mut groups, i, n, next.value);
+        at = next.at;
         i += n;
     }
     groups
 }
 
 // The parts of gid-96: three integers.
-fn general(bank: &[u8], s: Scheme, a: usize, b: usize, c: usize) -> Reading
-    requires { ⌜ Coded (now bank) s (Parts.Integers a b c) ⌝ }
+fn general(bank: &[u8], at: CodeBit, s: Scheme, a: usize, b: usize, c: usize) -> Reading
+    requires { ⌜ Coded (now bank) s (Parts.Integers a b c) × (at .0 ≡ headerEnd) ⌝ }
     ensures { λ r. ⌜ r ≡ readingOf (tagOfBank (now (bank .entry))) ⌝ }
 {
+    let first = take(bank, at, a);
+    let second = take(bank, first.at, b);
+    let third = take(bank, second.at, c);
     Reading {
         number: 0,
         tag: Record {
             scheme: s,
             filter: 0,
-            prefix: reader::field(bank, CodeBit(8), a),
+            prefix: first.value,
             digits: 0,
-            reference: reader::field(bank, CodeBit(8 + a), b),
-            serial: reader::field(bank, CodeBit(8 + a + b), c),
+            reference: second.value,
+            serial: third.value,
             characters: [0; 20],
             count: 0,
         },
     }
 }
 
-// What is read up to the company prefix: the filter, the partition value, the bits and digits of its row, and the prefix.
+// What is read up to the company prefix: the filter, the partition value, the digits of the prefix and its value.
 struct Company {
     filter: u64,
     row: usize,
-    cell: Cell,
+    digits: usize,
     prefix: u64,
 }
 
 // What follows the company prefix: rules 18 and 19.
-fn referenced(bank: &[u8], s: Scheme, p: Parts, company: Company) -> Reading
-    requires { ⌜ Begun (now bank) s p company ⌝ }
+fn behind_prefix(bank: &[u8], at: CodeBit, s: Scheme, body: Body, company: Company) -> Reading
+    requires { ⌜ Begun (now bank) s body company × (at .0 ≡ prefixEnd (now bank)) ⌝ }
     ensures { λ r. ⌜ r ≡ readingOf (tagOfBank (now (bank .entry))) ⌝ }
 {
-    let shape = shape_in(p, company.row);
-    let at = 14 + company.cell.bits;
-    let reference = reader::field(bank, CodeBit(at), shape.cell.bits);
-    if power(shape.cell.digits) <= reference {
-        return refused(18);
+    let shape = shape_in(body, company.row);
+    let reference = take(bank, at, shape.cell.bits);
+    if power(shape.cell.digits) <= reference.value {
+        return refused(refusal::REFERENCE_TOO_LARGE);
     }
-    let end = at + shape.cell.bits;
-    let characters = groups(bank, end, shape.groups);
+    let characters = groups(bank, reference.at, shape.groups);
     let count = alphabet::count(&characters, shape.groups);
     if count == 0 {
         if shape.groups != 0 {
-            return refused(19);
+            return refused(refusal::STRING);
         }
     }
+    let serial = take(bank, reference.at, shape.serial);
     Reading {
         number: 0,
         tag: Record {
             scheme: s,
             filter: company.filter,
             prefix: company.prefix,
-            digits: company.cell.digits,
-            reference,
-            serial: reader::field(bank, CodeBit(end), shape.serial),
+            digits: company.digits,
+            reference: reference.value,
+            serial: serial.value,
             characters,
             count,
         },
@@ -176,75 +184,62 @@ fn referenced(bank: &[u8], s: Scheme, p: Parts, company: Company) -> Reading
 }
 
 // The parts of any other scheme, a filter and a partition table: rules 16 to 19.
-fn partitioned(bank: &[u8], s: Scheme, p: Parts) -> Reading
-    requires { ⌜ Coded (now bank) s p × Tabled p ⌝ }
+fn partitioned(bank: &[u8], at: CodeBit, s: Scheme, body: Body) -> Reading
+    requires { ⌜ Coded (now bank) s (Parts.F body) × (at .0 ≡ headerEnd) ⌝ }
     ensures { λ r. ⌜ r ≡ readingOf (tagOfBank (now (bank .entry))) ⌝ }
 {
-    let row = reader::field(bank, CodeBit(11), 3) as usize;
+    let filter = take(bank, at, 3);
+    let partition = take(bank, filter.at, 3);
+    let row = partition.value as usize;
     if row == 7 {
-        return refused(16);
+        return refused(refusal::PARTITION);
     }
     let cell = rows::prefix(row);
-    let prefix = reader::field(bank, CodeBit(14), cell.bits);
-    if power(cell.digits) <= prefix {
-        return refused(17);
+    let prefix = take(bank, partition.at, cell.bits);
+    if power(cell.digits) <= prefix.value {
+        return refused(refusal::PREFIX_TOO_LARGE);
     }
-    let filter = reader::field(bank, CodeBit(8), 3);
     let company = Company {
-        filter,
+        filter: filter.value,
         row,
-        cell,
-        prefix,
+        digits: cell.digits,
+        prefix: prefix.value,
     };
-    referenced(bank, s, p, company)
+    behind_prefix(bank, prefix.at, s, body, company)
 }
 
 // The code: rules 13 to 15, and its parts.
-fn coded(bank: &[u8], count: usize) -> Reading
-    requires { ⌜ Clean (now bank) count ⌝ }
+fn coded(bank: &[u8], words: usize) -> Reading
+    requires { ⌜ controlIn (now bank) ≡ taken words ⌝ }
     ensures { λ r. ⌜ r ≡ readingOf (tagOfBank (now (bank .entry))) ⌝ }
 {
-    let header = reader::field(bank, CodeBit(0), 8) as u8;
-    let Headed::Is(s) = lines::by_header(header) else {
-        return refused(13);
+    let header = take(bank, CodeBit(0), 8);
+    let Headed::Is(s) = by_header(header.value as u8) else {
+        return refused(refusal::HEADER);
     };
-    let line = lines::about(s);
-    if count != line.words {
-        return refused(14);
+    let outline = about(s);
+    if words != outline.words {
+        return refused(refusal::WORD_COUNT);
     }
-    let p = line.parts;
-    let end = line.bits - zeros(p);
-    if reader::field(bank, CodeBit(end), 16 * count - end) != 0 {
-        return refused(15);
+    let p = outline.parts;
+    let end = outline.bits - zeros(p);
+    if take(bank, CodeBit(end), 16 * words - end).value != 0 {
+        return refused(refusal::FILL_BITS);
     }
     match p {
-        Parts::Integers(a, b, c) => general(bank, s, a, b, c),
-        _ => partitioned(bank, s, p),
+        Parts::Integers(a, b, c) => general(bank, header.at, s, a, b, c),
+        Parts::F(body) => partitioned(bank, header.at, s, body),
     }
 }
 
-// The bank: rules 9 to 12, and its code.
+// The bank: its control word, rules 9 to 12, and its code.
 pub fn read(bank: &[u8]) -> Reading
     ensures { λ r. ⌜ r ≡ readingOf (tagOfBank (now (bank .entry))) ⌝ }
 {
-    if bank.len() < 2 {
-        return refused(9);
+    let control = control::clean(bank);
+    let number = control.number;
+    if number != 0 {
+        return refused(number);
     }
-    let words = reader::field_at(bank, BankAddress(0x10), 5) as usize;
-    if bank.len() < 2 + 2 * words {
-        return refused(9);
-    }
-    if words == 0 {
-        return refused(10);
-    }
-    if reader::field_at(bank, BankAddress(0x17), 1) != 0 {
-        return refused(11);
-    }
-    if reader::field_at(bank, BankAddress(0x15), 2) != 0 {
-        return refused(12);
-    }
-    if reader::field_at(bank, BankAddress(0x18), 8) != 0 {
-        return refused(12);
-    }
-    coded(bank, words)
+    coded(bank, control.words)
 }

@@ -1,124 +1,149 @@
-// The bank of a tag, written from its record (document 01, "The bank").
+// The bank of a tag, written from its record (document 01, "The bank"): one stream of bits, in order. Each `put_` function takes the
+// stream, adds its bits, and returns the stream behind them.
+use super::control::size;
 use super::eights;
 use bits::Stream;
+use rules::Body;
+use rules::Last;
+use rules::Parts;
 use rules::Table;
-use scheme::lines;
-use scheme::lines::Parts;
+use scheme::outlines::Outline;
+use scheme::outlines::about;
 use scheme::record::Record;
 use scheme::rows;
 ghost use mathlib.Core.List.{_++_};
-ghost use Prim.Native.Nat.{_≤_};
+ghost use Prim.Native.Nat.{_≤_, _<_};
 ghost use lib.ListN.{length, take};
-ghost use Rattle.numeral.specs.Numeral.{spread};
+ghost use Rattle.numeral.specs.Numeral.{Digits, spread};
 ghost use Rattle.bits.specs.Streams.{waiting, Streamed};
+ghost use Rattle.rules.specs.Calls.{bankRoom};
 ghost use Rattle.rules.specs.Coding.{bankOf};
 ghost use Rattle.scheme.specs.Records.{HasTag, Writes};
-ghost use Rattle.bank.specs.Writing.{Company, companyBits, Reference, referenceBits, Keeps, packed, TakesString};
+ghost use Rattle.bank.specs.Writing.{Room, startBits, Company, companyBits, Reference, referenceBits, Asset, assetNumber, KeepsLast, lastBits, Keeps, packed};
 
-// The filter, the partition value and the company prefix, from byte 3 on: behind the control word and the header.
-fn put_company(tag: Record, out: &mut [u8]) -> Stream
-    requires { ⌜ (64 ≤ length (now out)) × Company tag ⌝ }
-    ensures { λ s. ⌜ Streamed (now (out .entry)) 3 (companyBits tag) (now (out .exit)) s ⌝ }
+// The filter, the partition value and the company prefix.
+fn put_company(out: &mut [u8], s: Stream, tag: Record) -> Stream
+    requires { ⌜ Room s 46 (length (now out)) × Company tag ⌝ }
+    ensures { λ r. ⌜ Streamed (now (out .entry)) (s .at) (waiting s ++ companyBits tag) (now (out .exit)) r ⌝ }
 {
     let p = rows::by_digits(tag.digits);
     let cell = rows::prefix(p);
-    let six = Stream {
-        at: 3,
-        bits: tag.filter * 8 + p as u64,
-        count: 6,
-    };
+    let six = bits::push(out, s, 6, tag.filter * 8 + p as u64);
     bits::push(out, six, cell.bits, tag.prefix)
 }
 
-// The same, and behind it the reference of table t.
-fn put_reference(tag: Record, t: Table, out: &mut [u8]) -> Stream
-    requires { ⌜ (64 ≤ length (now out)) × Reference t tag ⌝ }
-    ensures { λ s. ⌜ Streamed (now (out .entry)) 3 (referenceBits t tag) (now (out .exit)) s ⌝ }
+// The reference of one of the tables A to D.
+fn put_reference(out: &mut [u8], s: Stream, t: Table, tag: Record) -> Stream
+    requires { ⌜ Room s 38 (length (now out)) × Reference t tag ⌝ }
+    ensures { λ r. ⌜ Streamed (now (out .entry)) (s .at) (waiting s ++ referenceBits t tag) (now (out .exit)) r ⌝ }
 {
-    let s = put_company(tag, out);
     let cell = rows::reference(t, rows::by_digits(tag.digits));
     bits::push(out, s, cell.bits, tag.reference)
 }
 
-// The same with the reference of table E, the last part. It has 42 to 62 bits, so its 32 low ones are a piece of their own.
-fn put_asset(tag: Record, out: &mut [u8]) -> Stream
-    requires { ⌜ (64 ≤ length (now out)) × Keeps Parts.Asset tag ⌝ }
-    ensures { λ s. ⌜ Streamed (now (out .entry)) 3 (packed Parts.Asset tag) (now (out .exit)) s ⌝ }
+// The reference of table E. It has 42 to 62 bits, more than a stream takes at once, so its 32 low bits go by themselves.
+fn put_asset(out: &mut [u8], s: Stream, tag: Record) -> Stream
+    requires { ⌜ Room s 62 (length (now out)) × Asset tag ⌝ }
+    ensures { λ r. ⌜ Streamed (now (out .entry)) (s .at) (waiting s ++ assetNumber tag) (now (out .exit)) r ⌝ }
 {
-    let s = put_company(tag, out);
     let width = rows::asset(rows::by_digits(tag.digits));
     let high = bits::push(out, s, width - 32, tag.serial >> 32);
     bits::push(out, high, 32, tag.serial % 0x100000000)
 }
 
-// Three integers of a, b and c bits, from byte 3 on.
-fn put_integers(tag: Record, a: usize, b: usize, c: usize, out: &mut [u8]) -> Stream
-    requires { ⌜ (64 ≤ length (now out)) × Keeps (Parts.Integers a b c) tag ⌝ }
-    ensures { λ s. ⌜ Streamed (now (out .entry)) 3 (packed (Parts.Integers a b c) tag) (now (out .exit)) s ⌝ }
+// Three integers of a, b and c bits.
+fn put_integers(out: &mut [u8], s: Stream, tag: Record, a: usize, b: usize, c: usize) -> Stream
+    requires { ⌜ Room s 171 (length (now out)) × Keeps (Parts.Integers a b c) tag ⌝ }
+    ensures { λ r. ⌜ Streamed (now (out .entry)) (s .at) (waiting s ++ packed (Parts.Integers a b c) tag) (now (out .exit)) r ⌝ }
 {
-    let start = Stream {
-        at: 3,
-        bits: 0,
-        count: 0,
-    };
-    let first = bits::push(out, start, a, tag.prefix);
+    let first = bits::push(out, s, a, tag.prefix);
     let second = bits::push(out, first, b, tag.reference);
     bits::push(out, second, c, tag.serial)
 }
 
-// The first k characters, seven bits each. A string's zeros are among them: they stand behind its characters.
+// The first k characters, seven bits each. Where the string has fewer, the rest of them are zeros.
 fn put_string(out: &mut [u8], s: Stream, characters: [u8; 20], k: usize) -> Stream
-    requires { ⌜ TakesString s characters k (length (now out)) ⌝ }
+    requires { ⌜ Room s 140 (length (now out)) × Digits 128 characters × (k ≤ 20) ⌝ }
     ensures { λ r. ⌜ Streamed (now (out .entry)) (s .at) (waiting s ++ spread 2 7 (take k characters)) (now (out .exit)) r ⌝ }
 {
     let mut end = s;
     let mut i = 0;
     while i < k {
-        let n = eights::next(k - i);
+        let n = bits::least(k - i, 8);
         end = bits::push(out, end, 7 * n, eights::joined(&characters, i, n));
         i += n;
     }
     end
 }
 
-// The parts after the header, from byte 3 on.
-fn put_parts(tag: Record, parts: Parts, out: &mut [u8]) -> Stream
-    requires { ⌜ (64 ≤ length (now out)) × Keeps parts tag ⌝ }
-    ensures { λ s. ⌜ Streamed (now (out .entry)) 3 (packed parts tag) (now (out .exit)) s ⌝ }
+// What follows a reference: an integer or a string.
+fn put_last(out: &mut [u8], s: Stream, last: Last, tag: Record) -> Stream
+    requires { ⌜ Room s 140 (length (now out)) × KeepsLast last tag ⌝ }
+    ensures { λ r. ⌜ Streamed (now (out .entry)) (s .at) (waiting s ++ lastBits last tag) (now (out .exit)) r ⌝ }
 {
-    match parts {
-        Parts::Integer(t, n) => {
-            let s = put_reference(tag, t, out);
-            bits::push(out, s, n, tag.serial)
-        }
-        Parts::String(t, n) => {
-            let s = put_reference(tag, t, out);
+    match last {
+        Last::Integer(n) => bits::push(out, s, n, tag.serial),
+        Last::String(n) => {
             let characters = tag.characters;
             put_string(out, s, characters, n / 7)
         }
-        Parts::Zeros(t, _) => put_reference(tag, t, out),
-        Parts::Asset => put_asset(tag, out),
-        Parts::Integers(a, b, c) => put_integers(tag, a, b, c, out),
     }
+}
+
+// A partition table, and what follows its reference.
+fn put_body(out: &mut [u8], s: Stream, body: Body, tag: Record) -> Stream
+    requires { ⌜ Room s 224 (length (now out)) × Keeps (Parts.F body) tag ⌝ }
+    ensures { λ r. ⌜ Streamed (now (out .entry)) (s .at) (waiting s ++ packed (Parts.F body) tag) (now (out .exit)) r ⌝ }
+{
+    let company = put_company(out, s, tag);
+    match body {
+        Body::Then(t, l) => {
+            let reference = put_reference(out, company, t, tag);
+            put_last(out, reference, l, tag)
+        }
+        Body::Zeros(t, _) => put_reference(out, company, t, tag),
+        Body::E => put_asset(out, company, tag),
+    }
+}
+
+// All parts after the header.
+fn put_parts(out: &mut [u8], s: Stream, parts: Parts, tag: Record) -> Stream
+    requires { ⌜ Room s 224 (length (now out)) × Keeps parts tag ⌝ }
+    ensures { λ r. ⌜ Streamed (now (out .entry)) (s .at) (waiting s ++ packed parts tag) (now (out .exit)) r ⌝ }
+{
+    match parts {
+        Parts::F(body) => put_body(out, s, body, tag),
+        Parts::Integers(a, b, c) => put_integers(out, s, tag, a, b, c),
+    }
+}
+
+// The control word, with the word count in its upper five bits, and the header.
+fn put_start(out: &mut [u8], outline: Outline) -> Stream
+    requires { ⌜ (bankRoom ≤ length (now out)) × (outline .words < 32) ⌝ }
+    ensures { λ r. ⌜ Streamed (now (out .entry)) 0 (startBits outline) (now (out .exit)) r ⌝ }
+{
+    let start = Stream {
+        at: 0,
+        bits: 0,
+        count: 0,
+    };
+    let control = bits::push(out, start, 16, (outline.words * 2048) as u64);
+    bits::push(out, control, 8, outline.header as u64)
 }
 
 // Writes the bank of the tag from the output's start on, and returns its length.
 pub fn write(tag: Record, out: &mut [u8]) -> usize
-    requires { ⌜ 64 ≤ length (now out) ⌝ }
+    requires { ⌜ bankRoom ≤ length (now out) ⌝ }
     requires { ⌜ HasTag tag ⌝ }
     ensures { λ n. ⌜ Writes bankOf tag (now (out .entry)) n (now (out .exit)) ⌝ }
 {
     let s = tag.scheme;
-    let line = lines::about(s);
-    let words = line.words;
-    // the word count in five bits, the eleven other control bits, the header
-    out[0] = (words * 8) as u8;
-    out[1] = 0;
-    out[2] = line.header;
-    let parts = line.parts;
-    let body = put_parts(tag, parts, out);
+    let outline = about(s);
+    let start = put_start(out, outline);
+    let parts = outline.parts;
+    let end = put_parts(out, start, parts, tag);
     // zeros to the end of the last word: the fill, and table B's 24
-    let size = 2 + 2 * words;
-    bits::push(out, body, 8 * (size - body.at) - body.count, 0);
-    size
+    let n = size(outline.words);
+    bits::push(out, end, 8 * (n - end.at) - end.count, 0);
+    n
 }

@@ -3,3 +3,4 @@ pub mod Ends
 pub mod RawAnswers
 pub mod TurnedBack
 pub mod OneAnswer
+pub mod OneTie

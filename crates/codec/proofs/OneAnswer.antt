@@ -15,11 +15,11 @@ use Rattle.codec.specs.Answers.{answered}
 use Rattle.codec.specs.declared.Answer.{Answer}
 use Rattle.codec.specs.declared.Answer.the-variants.{Written, Refused}
 
-text-full : (τ : Tag) → 0 < length (textOf τ)
+pub text-full : (τ : Tag) → 0 < length (textOf τ)
 unfolding textOf start
 text-full τ = omega arith
 
-bank-full : (τ : Tag) → 0 < length (bankOf τ)
+pub bank-full : (τ : Tag) → 0 < length (bankOf τ)
 unfolding bankOf
 bank-full τ = rw length-gather (omega arith)
 
@@ -50,7 +50,7 @@ module _ (c : Call) (full : Full c) where
   told-apart : (n m : ℕ) (o p : List ℕ) → answered (Written n) o ≡ c → ¬ (answered (Refused m) p ≡ c)
   told-apart n m o p e f = omega (arith, full (sym (ap (λ x. x .number) e)), ap (λ x. x .written) f)
 
-  one-answer : (r s : Answer) (o p : List ℕ) → answered r o ≡ c → answered s p ≡ c → (r ≡ s) × (o ≡ p)
+  pub one-answer : (r s : Answer) (o p : List ℕ) → answered r o ≡ c → answered s p ≡ c → (r ≡ s) × (o ≡ p)
   one-answer (Written n) (Written m) o p e f = (ap Written (ap (λ x. x .written) (e ∙ sym f)), ap (λ x. x .output) (e ∙ sym f))
   one-answer (Refused n) (Refused m) o p e f = (ap Refused (ap (λ x. x .number) (e ∙ sym f)), ap (λ x. x .output) (e ∙ sym f))
   one-answer (Written n) (Refused m) o p e f = absurd (told-apart n m o p e f)

@@ -9,8 +9,8 @@ use Rattle.numeral.specs.Numeral.{Digits}
 use Rattle.rules.specs.Answers.{Answer, refused, taken, _>>=_}
 use Rattle.rules.specs.Grammar.{Tag, Fits, layout, textOf}
 use Rattle.rules.specs.Coding.{TagBank, bankOf, within}
-use Rattle.rules.specs.Calls.{call, line, lent, bankRoom, textRoom, textAnswer, bankAnswer, textToBank, bankToText}
-use Rattle.rules.proofs.Again.{line-is}
+use Rattle.rules.specs.Calls.{call, wrote, lent, bankRoom, textRoom, textAnswer, bankAnswer, textToBank, bankToText}
+use Rattle.rules.proofs.Again.{wrote-is}
 use Rattle.rules.proofs.TextReads
 use Rattle.rules.proofs.Banks
 use Rattle.rules.proofs.OneAnswer.{one-answer-of-text-to-bank, one-answer-of-bank-to-text}
@@ -59,11 +59,11 @@ module _ (b text out : List ℕ) (d : Digits 256 b) where
   bank-again w e =
       let c = call text (textAnswer b text) in
       let (v, r, n, o) = one-answer-of-bank-to-text b text d c .1 refl .accepted (ap (λ x. call text x .number) e) in
-      let same : w ≡ textOf (r .0) = sym (wrote w e) ∙ line-is text v c n o ∙ r .2 in
+      let same : w ≡ textOf (r .0) = sym (first-wrote w e) ∙ wrote-is text v c n o ∙ r .2 in
       rw (TextReads.tag-of w (r .0) (record { fits = r .1 .fits; text = same }), sym (r .1 .bank))
     where
-      wrote : (w : List ℕ) → textAnswer b text ≡ taken w → line (call text (textAnswer b text)) ≡ w
-      wrote w e = rw e (line-is text w (call text (taken w)) refl refl)
+      first-wrote : (w : List ℕ) → textAnswer b text ≡ taken w → wrote (call text (textAnswer b text)) ≡ w
+      first-wrote w e = rw e (wrote-is text w (call text (taken w)) refl refl)
 
   module _ (n : ℕ) (after : List ℕ) where
     pub shown-room : answered (Written n) after ≡ bankToText b text → n ≤ length after
@@ -89,11 +89,11 @@ module _ (t bank out : List ℕ) where
   text-again w e =
       let c = call bank (bankAnswer t bank) in
       let (v, r, n, o) = one-answer-of-text-to-bank t bank c .1 refl .accepted (ap (λ x. call bank x .number) e) in
-      let same : w ≡ bankOf (r .0) = sym (wrote w e) ∙ line-is bank v c n o ∙ r .2 in
+      let same : w ≡ bankOf (r .0) = sym (first-wrote w e) ∙ wrote-is bank v c n o ∙ r .2 in
       rw (Banks.tag-of w (r .0) (bank-of w (r .0) (r .1 .fits) same), sym (r .1 .text))
     where
-      wrote : (w : List ℕ) → bankAnswer t bank ≡ taken w → line (call bank (bankAnswer t bank)) ≡ w
-      wrote w e = rw e (line-is bank w (call bank (taken w)) refl refl)
+      first-wrote : (w : List ℕ) → bankAnswer t bank ≡ taken w → wrote (call bank (bankAnswer t bank)) ≡ w
+      first-wrote w e = rw e (wrote-is bank w (call bank (taken w)) refl refl)
 
   module _ (n : ℕ) (after : List ℕ) where
     pub written-room : answered (Written n) after ≡ textToBank t bank → n ≤ length after

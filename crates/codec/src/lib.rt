@@ -2,10 +2,16 @@
 // byte of the lent output. All is read before anything is written.
 pub mod ties;
 
+use scheme::refusal;
 ghost use mathlib.Core.Path.{_≡_};
 ghost use Rattle.rules.specs.Calls.{textToBank, bankToText, rawLine};
 ghost use Rattle.rules.specs.Screen.{screen as screenOf};
 ghost use Rattle.codec.specs.Answers.{answered, chosen};
+
+// The bytes that an output must have: for a bank, and for a text or a raw line.
+pub const BANK_ROOM: usize = 64;
+
+pub const TEXT_ROOM: usize = 160;
 
 // What a call gives: accepted with the length written, or refused with a number ("Numbers given, and when").
 pub enum Answer {
@@ -17,8 +23,8 @@ pub enum Answer {
 pub fn text_to_bank(text: &[u8], out: &mut [u8]) -> Answer
     ensures { λ r. ⌜ answered r (now (out .exit)) ≡ textToBank (now (text .entry)) (now (out .entry)) ⌝ }
 {
-    if out.len() < 64 {
-        return Answer::Refused(1);
+    if out.len() < BANK_ROOM {
+        return Answer::Refused(refusal::OUTPUT_TOO_SHORT);
     }
     let reading = text::reading::read(text);
     let number = reading.number;
@@ -33,8 +39,8 @@ pub fn text_to_bank(text: &[u8], out: &mut [u8]) -> Answer
 pub fn bank_to_text(bank: &[u8], out: &mut [u8]) -> Answer
     ensures { λ r. ⌜ answered r (now (out .exit)) ≡ bankToText (now (bank .entry)) (now (out .entry)) ⌝ }
 {
-    if out.len() < 160 {
-        return Answer::Refused(1);
+    if out.len() < TEXT_ROOM {
+        return Answer::Refused(refusal::OUTPUT_TOO_SHORT);
     }
     let reading = bank::reading::read(bank);
     let number = reading.number;
@@ -49,24 +55,18 @@ pub fn bank_to_text(bank: &[u8], out: &mut [u8]) -> Answer
 pub fn raw_line(bank: &[u8], out: &mut [u8]) -> Answer
     ensures { λ r. ⌜ answered r (now (out .exit)) ≡ rawLine (now (bank .entry)) (now (out .entry)) ⌝ }
 {
-    if out.len() < 160 {
-        return Answer::Refused(1);
+    if out.len() < TEXT_ROOM {
+        return Answer::Refused(refusal::OUTPUT_TOO_SHORT);
     }
-    if bank.len() < 2 {
-        return Answer::Refused(9);
+    let control = bank::control::words(bank);
+    if control.number != 0 {
+        return Answer::Refused(control.number);
     }
-    let words = bank::raw::words(bank);
-    if bank.len() < 2 + 2 * words {
-        return Answer::Refused(9);
-    }
-    if words == 0 {
-        return Answer::Refused(10);
-    }
-    Answer::Written(bank::raw::write(bank, out))
+    Answer::Written(bank::raw::write(bank, control.words, out))
 }
 
 // The line on the screen ("Screen"): all of the tag text for 0, all of the raw text for 11 to 19, the raw text's empty start for every
-// other number. It is that part of that text itself, no copy.
+// other number. It is a part of that text, not a copy.
 pub fn screen<'a>(tag: &'a [u8], raw: &'a [u8], number: u8) -> &'a [u8]
     ensures shown { λ r. ⌜ now r ≡ screenOf (now (tag .entry)) (now (raw .entry)) number ⌝ }
     ensures part { λ r. ⌜ r .ptr ≡ chosen number (tag .entry .ptr) (raw .entry .ptr) ⌝ }
@@ -74,10 +74,10 @@ pub fn screen<'a>(tag: &'a [u8], raw: &'a [u8], number: u8) -> &'a [u8]
     if number == 0 {
         return tag;
     }
-    if number < 11 {
+    if number < refusal::TOGGLE {
         return &raw[..0];
     }
-    if 19 < number {
+    if refusal::STRING < number {
         return &raw[..0];
     }
     raw

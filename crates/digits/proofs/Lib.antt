@@ -6,3 +6,4 @@ pub mod Copies
 pub mod Pairs
 pub mod Alls
 pub mod Starts
+pub mod Joins

@@ -1,7 +1,7 @@
 -- `splice`: one piece written after the other, and in another base.
 use mathlib.Core.Path.{_≡_, refl, sym, _∙_}
 use Prim.Native.Nat.{ℕ, suc, _+_, _*_, _^_, _≤_, _<_}
-use native.Mathlib.Nat.{add-zero, add-assoc, mul-add}
+use native.Mathlib.Nat.{add-zero, zero-add, add-assoc, mul-add}
 use native.Mathlib.Numerals.{add-one}
 use native.Mathlib.Omega.{arith}
 use mathlib.Core.List.{List, [], _∷_, _++_, append-assoc, append-nil}
@@ -90,3 +90,8 @@ module _ (b n : ℕ) (pos : 0 < b) (s s′ : List ℕ) (p k : ℕ) (x : List ℕ
       let room′ : p + length y ≤ length s = omega (arith, length-gather b n k x) in
       spread-inj b n s′ (splice s p y) hs′ (digits-splice (b ^ n) s p y hs (digits-gather b n k x pos)) (l ∙ sym (length-splice s p y room′))
       (e ∙ rw (spread-splice b n s p y, spread-gather b n k x pos hx lx))
+
+-- a piece written over the start stands in front of the rest
+pub splice-front : (s x : List ℕ) → splice s 0 x ≡ x ++ drop (length x) s
+unfolding splice
+splice-front s x = rw (zero-add (length x))

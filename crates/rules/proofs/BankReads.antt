@@ -16,14 +16,18 @@ use Rattle.numeral.proofs.Spreads.{length-spread, digits-spread}
 use Rattle.numeral.proofs.Fields.{field-more}
 use Rattle.rules.specs.Answers.{taken, _>>=_, _>>_, demand, given}
 use Rattle.rules.specs.declared.Scheme.{Scheme}
-use Rattle.rules.specs.Schemes.{Parts, F, integers, _then_, _zeros_, E, schemes, about, words, zeroBits}
+use Rattle.rules.specs.declared.Last.the-variants.{Integer, String}
+use Rattle.rules.specs.declared.Body.the-variants.{Then, Zeros, E}
+use Rattle.rules.specs.declared.Parts.{Parts}
+use Rattle.rules.specs.declared.Parts.the-variants.{F, Integers}
+use Rattle.rules.specs.Schemes.{schemes, about, words, zeroBits}
 use Rattle.rules.specs.Grammar.{layout, Fits}
 use Rattle.rules.specs.Coding.{binary, coded, at, wordCount, bankSize}
-use Rattle.rules.specs.BankNumbers.{allZero, headed, codeIn, fieldsIn, tagOfBank}
+use Rattle.rules.specs.BankNumbers.{allZero, headed, codeIn, fieldsIn, wordsIn, controlIn, tagOfBank}
 use Rattle.rules.specs.Raw.{rawText, rawOfBank}
 use Rattle.rules.specs.Conditions.{Rule, rule, OfBank, OneAfter, NoRow, LargePrefix, LargeReference, WrongLast, rawRules, bankRules}
 use Rattle.rules.proofs.Tests.{both, and, eq→eqb, apart, all-at, not-all}
-use Rattle.rules.proofs.Answers.{Gives, Decides, decided, Settled, Reads, settled-demand, settled-given, settled-as, step, check, reads-map, done, same, reads-covers}
+use Rattle.rules.proofs.Answers.{Gives, Decides, decided, Settled, Reads, settled-demand, settled-given, settled-as, step, check, reads-map, reads-bind, done, same, reads-covers}
 use Rattle.rules.proofs.Codes.{content, sizes, headed-of}
 use Rattle.rules.proofs.Banks.{Shown, control-is, code-is}
 use Rattle.rules.proofs.CodeReads.{take-inside, parts-read}
@@ -35,7 +39,7 @@ at-lt b a n =
     let h = value-lt 2 (take n S) (digits-take 2 n S (digits-drop 2 (a - 0x10) (spread 2 8 b) (digits-spread 2 8 b (lit< tt)))) in
     le-trans h (pow-le-pow-right (lit< tt) (rw length-take (omega arith)))
 
--- Rules 9 to 12: the length and the control word.
+-- The length and the control word, rule by rule.
 abbrev Short : List ℕ → Type 0
 Short b = (length b < 2) ⊎ (length b < bankSize (wordCount b))
 
@@ -157,10 +161,11 @@ schemeRules b =
 
 -- a last part ends where the parts do
 last-alike : (b : List ℕ) (m n : ℕ) (p : Parts) → m - zeroBits p ≡ n → WrongLast b n p ↔ WrongLast b m p
-last-alike b m n (F (t then f)) e = let q : n ≡ m = omega arith in rw q Iff·rfl
-last-alike b m n (F (t zeros z)) e = Iff·rfl
+last-alike b m n (F (Then t (Integer k))) e = Iff·rfl
+last-alike b m n (F (Then t (String k))) e = let q : n ≡ m = omega arith in rw q Iff·rfl
+last-alike b m n (F (Zeros t z)) e = Iff·rfl
 last-alike b m n (F E) e = Iff·rfl
-last-alike b m n (integers x y z) e = Iff·rfl
+last-alike b m n (Integers x y z) e = Iff·rfl
 
 module _ (b : List ℕ) (s : Scheme) (long : bankSize (wordCount b) ≤ length b) (count : wordCount b ≡ words s) (e : at b 0x20 8 ≡ about s .header) where
   abbrev PartsShown : List (List ℕ) → Type 0
@@ -210,31 +215,63 @@ header-reads b s long control e =
       code = code-is s ps c (i .0) (code-bits b long) (code-length b long ∙ ap (16 *_) count) (sym (header-seen b long (omega (arith, sizes s .some-words))) ∙ e) (i .1) (i .2) z;
     }
 
-pub bank-reads : (b : List ℕ) → Reads (bankRules b) (Shown b) (tagOfBank b)
-unfolding bankRules rawRules tagOfBank
-bank-reads b =
+-- Rules 9 and 10: a bank that has its words, and not none.
+abbrev pub HasWords : List ℕ → ℕ → Type 0
+HasWords b W = (W ≡ wordCount b) × (0 < wordCount b) × (2 ≤ length b) × (bankSize (wordCount b) ≤ length b)
+
+pub words-reads : (b : List ℕ) → Reads (rawRules b) (HasWords b) (wordsIn b)
+unfolding rawRules
+words-reads b =
     let W = wordCount b in
-    let R = Shown b in
-    let c = codeIn b in
-    check _ R 9 (Short b) (T (enough b)) (demand (enough b) 9) _ (lit< tt) (settled-9 b) λ h.
+    check (rule 10 (W ≡ 0) ∷ []) (HasWords b) 9 (Short b) (T (enough b)) (demand (enough b) 9) _ (lit< tt) (settled-9 b) λ h.
+    check [] (HasWords b) 10 (W ≡ 0) (T (ltb 0 W)) (demand (ltb 0 W) 10) (taken W) (lit< tt) (settled-10 W) λ w.
     let (two, long) = enough-is b h in
-    check _ R 10 (W ≡ 0) (T (ltb 0 W)) (demand (ltb 0 W) 10) _ (lit< tt) (settled-10 W) λ w.
+    (tt, (refl, ltb→lt 0 W w, two, long))
+
+pub words-of : (b : List ℕ) (W : ℕ) → wordsIn b ≡ taken W → HasWords b W
+words-of b W e = (rw e at (words-reads b)) .1
+
+-- Rules 9 to 12: its control word is in order too.
+pub record Clean (b : List ℕ) (W : ℕ) : Type 0 where
+  pub count : W ≡ wordCount b
+  pub some-words : 0 < wordCount b
+  pub two : 2 ≤ length b
+  pub long : bankSize (wordCount b) ≤ length b
+  pub toggle : at b 0x17 1 ≡ 0
+  pub control : at b 0x15 2 ≡ 0
+  pub attributes : at b 0x18 8 ≡ 0
+
+abbrev controlRules : List ℕ → List Rule
+controlRules b =
+    rawRules b ++
+    (rule 11 (at b 0x17 1 ≡ 1) ∷
+    rule 12 (¬ ((at b 0x15 1 ≡ 0) × (at b 0x16 1 ≡ 0) × (at b 0x18 8 ≡ 0))) ∷ [])
+
+pub control-reads : (b : List ℕ) → Reads (controlRules b) (Clean b) (controlIn b)
+control-reads b =
+    let R = Clean b in
+    reads-bind (rawRules b) _ (HasWords b) R (wordsIn b) _ (words-reads b) λ W (count, full, two, long).
     let t = at b 0x17 1 in
     check _ R 11 (t ≡ 1) (T (eqb t 0)) (demand (eqb t 0) 11) _ (lit< tt) (settled-11 t (at-lt b 0x17 1)) λ toggle.
     let u = at b 0x15 2 in
     let v = at b 0x18 8 in
-    check _ R 12 _ (T (eqb u 0 && eqb v 0)) (demand (eqb u 0 && eqb v 0) 12) _ (lit< tt) (settled-12 (at b 0x15 1) (at b 0x16 1) u v (control-bits b two)) λ z.
+    check [] R 12 _ (T (eqb u 0 && eqb v 0)) (demand (eqb u 0 && eqb v 0) 12) (taken W) (lit< tt) (settled-12 (at b 0x15 1) (at b 0x16 1) u v (control-bits b two)) λ z.
     let (x, y) = both (eqb u 0) (eqb v 0) z in
-    let e = header-seen b long (ltb→lt 0 W w) in
-    step (headerRules b) R 13 (¬ (Headed b)) _ (given (headed (value 2 (take 8 c)) schemes) 13) _ (lit< tt)
-    (settled-given 13 (¬ (Headed b)) _ (headed (value 2 (take 8 c)) schemes) (header-decided b (value 2 (take 8 c)) e)) λ s i.
-    header-reads b s long (control-is b W two refl (eqb→eq t 0 toggle) (eqb→eq u 0 x) (eqb→eq v 0 y)) i
+    (tt, record { count = count; some-words = full; two = two; long = long; toggle = eqb→eq t 0 toggle; control = eqb→eq u 0 x; attributes = eqb→eq v 0 y })
+
+pub clean-of : (b : List ℕ) (W : ℕ) → controlIn b ≡ taken W → Clean b W
+clean-of b W e = (rw e at (control-reads b)) .1
+
+pub bank-reads : (b : List ℕ) → Reads (bankRules b) (Shown b) (tagOfBank b)
+unfolding bankRules rawRules tagOfBank
+bank-reads b =
+    reads-bind (controlRules b) _ (Clean b) (Shown b) (controlIn b) _ (control-reads b) λ W c.
+    let h = value 2 (take 8 (codeIn b)) in
+    step (headerRules b) (Shown b) 13 (¬ (Headed b)) _ (given (headed h schemes) 13) _ (lit< tt)
+    (settled-given 13 (¬ (Headed b)) _ (headed h schemes) (header-decided b h (header-seen b (c .long) (c .some-words)))) λ s i.
+    rw (c .count) (header-reads b s (c .long) (control-is b (wordCount b) (c .two) refl (c .toggle) (c .control) (c .attributes)) i)
 
 -- The raw line is refused by 9 and 10 alone.
 pub raw-reads : (b : List ℕ) → Reads (rawRules b) (λ w. (w ≡ rawText b) × (2 ≤ length b) × (bankSize (wordCount b) ≤ length b)) (rawOfBank b)
-unfolding rawRules rawOfBank
-raw-reads b =
-    let W = wordCount b in
-    check _ _ 9 (Short b) (T (enough b)) (demand (enough b) 9) _ (lit< tt) (settled-9 b) λ h.
-    let (two, long) = enough-is b h in
-    check _ _ 10 (W ≡ 0) (T (ltb 0 W)) (demand (ltb 0 W) 10) _ (lit< tt) (settled-10 W) λ w. (tt, (refl, two, long))
+unfolding rawOfBank
+raw-reads b = reads-map (rawRules b) (HasWords b) _ (λ W. rawText b) (wordsIn b) (words-reads b) λ W h. (refl, h .2, h .3)

@@ -9,11 +9,17 @@ use lib.Seq.{drop-at, drop-drop, take-take}
 use Rattle.numeral.specs.Numeral.{value, Digits}
 use Rattle.numeral.proofs.Values.{digits-drop}
 use Rattle.rules.specs.declared.Table.{Table}
-use Rattle.rules.specs.Schemes.{Row, row, Form, prefix, digits, integer, string, rowAt, rowOf, cell, reference, referenceE, prefixBits, prefixDigits, partition, Body, _then_, _zeros_, E, Parts, F, integers}
-use Rattle.rules.specs.Grammar.{Layout, part, last, laid, bodyLayout, Fits, more, one}
+use Rattle.rules.specs.declared.Last.{Last}
+use Rattle.rules.specs.declared.Last.the-variants.{Integer, String}
+use Rattle.rules.specs.declared.Body.{Body}
+use Rattle.rules.specs.declared.Body.the-variants.{Then, Zeros, E}
+use Rattle.rules.specs.declared.Parts.{Parts}
+use Rattle.rules.specs.declared.Parts.the-variants.{F, Integers}
+use Rattle.rules.specs.Schemes.{Row, Form, company, integer, rowAt, rowOf, cell, rowDigits, assetBits, prefixBits, prefixDigits, partition, lastForm}
+use Rattle.rules.specs.Grammar.{Role, Layout, part, end, laid, bodyLayout, Fits, more, one}
 use Rattle.rules.specs.Coding.{partBits, coded, at}
 use Rattle.rules.specs.BankNumbers.{Field, fieldIn, fieldsIn}
-use Rattle.rules.specs.Conditions.{Rule, rule, partitionIn, rowIn, NoRow, LargePrefix, LargeCell, LargeReference, WrongGroups, WrongString, WrongLast}
+use Rattle.rules.specs.Conditions.{Rule, rule, partitionIn, rowIn, NoRow, LargePrefix, LargeCell, LargeReference, WrongGroups, WrongLast}
 use Rattle.rules.proofs.Answers.{Reads, reads-map, reads-bind, Covers, done, same, extra, reads-covers}
 use Rattle.rules.proofs.Numbers.{read}
 use Rattle.rules.proofs.Rows.{narrow-row}
@@ -31,17 +37,17 @@ pub record CodeReads (rs : List Rule) (y : Layout) (l : List ℕ) : Type 0 where
 covered : {rs qs : List Rule} {y : Layout} {l : List ℕ} → Covers rs qs → CodeReads rs y l → CodeReads qs y l
 covered {y = y} {l = l} c h = record { reads = reads-covers (FieldsAre y l) (fieldsIn y l) c (h .reads) }
 
-goes-on : {n : ℕ} {f : Form} {k : List ℕ → Layout} {l : List ℕ} {qs : List Rule} → Roomy f → Digits 2 l → widest f ≤ length l
-    → ((c : Field) → FieldIs f l c → CodeReads qs (k (c .symbols)) (c .rest)) → CodeReads (fieldRules f l ++ qs) (part n f k) l
-goes-on {n} {f} {k} {l} {qs} r d w h = record {
-  reads = reads-bind (fieldRules f l) qs (FieldIs f l) (FieldsAre (part n f k) l) (fieldIn f l) _ (field-reads f l r d w) λ c i.
-      reads-map qs (FieldsAre (k (c .symbols)) (c .rest)) (FieldsAre (part n f k) l) (c .symbols ∷_) (fieldsIn (k (c .symbols)) (c .rest)) (h c i .reads) λ ps j.
+goes-on : {r : Role} {f : Form} {k : List ℕ → Layout} {l : List ℕ} {qs : List Rule} → Roomy f → Digits 2 l → widest f ≤ length l
+    → ((c : Field) → FieldIs f l c → CodeReads qs (k (c .symbols)) (c .rest)) → CodeReads (fieldRules f l ++ qs) (part r f k) l
+goes-on {r} {f} {k} {l} {qs} roomy d w h = record {
+  reads = reads-bind (fieldRules f l) qs (FieldIs f l) (FieldsAre (part r f k) l) (fieldIn f l) _ (field-reads f l roomy d w) λ c i.
+      reads-map qs (FieldsAre (k (c .symbols)) (c .rest)) (FieldsAre (part r f k) l) (c .symbols ∷_) (fieldsIn (k (c .symbols)) (c .rest)) (h c i .reads) λ ps j.
       (j .0, more (i .0) (j .1), rw append-assoc (i .1 ∙ ap (partBits f (c .symbols) ++_) (j .2)));
 }
 
-ends : {n : ℕ} {f : Form} {l : List ℕ} → Roomy f → Digits 2 l → widest f ≤ length l → CodeReads (fieldRules f l) (last n f) l
-ends {n} {f} {l} r d w = record {
-  reads = reads-map (fieldRules f l) (FieldIs f l) (FieldsAre (last n f) l) (λ c. c .symbols ∷ []) (fieldIn f l) (field-reads f l r d w) λ c i.
+ends : {r : Role} {f : Form} {l : List ℕ} → Roomy f → Digits 2 l → widest f ≤ length l → CodeReads (fieldRules f l) (end r f) l
+ends {r} {f} {l} roomy d w = record {
+  reads = reads-map (fieldRules f l) (FieldIs f l) (FieldsAre (end r f) l) (λ c. c .symbols ∷ []) (fieldIn f l) (field-reads f l roomy d w) λ c i.
       (c .rest, one (i .0), i .1);
 }
 
@@ -70,16 +76,14 @@ module _ (b l : List ℕ) (n : ℕ) (d : Digits 2 l) (long : n ≤ length l) (se
       let a : 0x20 + (8 + n - w) + 7 * i ≡ 0x28 + (q + 7 * i) = omega arith in
       rw (a, seen (q + 7 * i) 7 (omega arith), take-inside (7 * i) 7 w (drop q l) (omega arith), drop-drop (7 * i) q l)
 
-  end-reads : (m q : ℕ) (f : Form) → Ends f (n - q) → q ≤ n → CodeReads (rule 19 (WrongString b (8 + n) f) ∷ []) (last m f) (drop q l)
-  end-reads m q prefix h k = absurd h
-  end-reads m q (digits w z) h k = absurd h
-  end-reads m q (integer w) h k = covered (extra (λ e. e) done) (ends tt (tail-bits q) (tail-long q w (omega arith)))
-  end-reads m q (string w) h k = covered (same refl (forth, back) done) (ends (h .1, h .2) (tail-bits q) (tail-long q w (omega arith)))
+  end-reads : (t : Table) (r : Role) (q : ℕ) (x : Last) → Ends x (n - q) → q ≤ n → CodeReads (rule 19 (WrongLast b (8 + n) (F (Then t x))) ∷ []) (end r (lastForm x)) (drop q l)
+  end-reads t r q (Integer w) h k = covered (extra (λ e. e) done) (ends tt (tail-bits q) (tail-long q w (omega arith)))
+  end-reads t r q (String w) h k = covered (same refl (forth, back) done) (ends (h .1, h .2) (tail-bits q) (tail-long q w (omega arith)))
     where
-      forth : WrongGroups (w / 7) (groupOf (take w (drop q l))) → WrongString b (8 + n) (string w)
+      forth : WrongGroups (w / 7) (groupOf (take w (drop q l))) → WrongLast b (8 + n) (F (Then t (String w)))
       forth = wrong-alike (w / 7) (groupOf (take w (drop q l))) (λ i. at b (0x20 + (8 + n - w) + 7 * i) 7) (h .2) λ i v. groups-seen q w i (h .0) k v
 
-      back : WrongString b (8 + n) (string w) → WrongGroups (w / 7) (groupOf (take w (drop q l)))
+      back : WrongLast b (8 + n) (F (Then t (String w))) → WrongGroups (w / 7) (groupOf (take w (drop q l)))
       back = wrong-alike (w / 7) (λ i. at b (0x20 + (8 + n - w) + 7 * i) 7) (groupOf (take w (drop q l))) (h .2) λ i v. sym (groups-seen q w i (h .0) k v)
 
   -- behind a company prefix of m digits, whose row is the bank's
@@ -90,23 +94,20 @@ module _ (b l : List ℕ) (n : ℕ) (d : Digits 2 l) (long : n ≤ length l) (se
       let a : 0x2E + p ≡ 0x28 + (6 + p) = omega arith in
       rw (e, a, seen (6 + p) (cell t (rowOf m) .0) k) Iff·rfl
 
-  no-string : (k : ℕ) (r : Row) → WrongString b k (referenceE r) → ⊥
-  no-string k (row p x y z w e) h = h
-
   body-reads : (body : Body) (m : ℕ) → partitionIn b ≡ partition m → RowSizes body n (rowOf m)
       → CodeReads (rule 18 (LargeReference b (F body)) ∷ rule 19 (WrongLast b (8 + n) (F body)) ∷ []) (bodyLayout body m) (drop (6 + prefixBits (rowOf m)) l)
-  body-reads (t then f) m e h =
+  body-reads (Then t x) m e h =
       let p = 6 + prefixBits (rowOf m) in
       let w = cell t (rowOf m) .0 in
       covered (same refl (cell-seen t m e (h .1)) (same refl Iff·rfl done))
       (goes-on (h .0) (tail-bits p) (tail-long p w (h .1)) λ c i.
-      rw (rest-is (reference t (rowOf m)) (drop p l) c (h .0) i, drop-drop w p l) (end-reads 7 (p + w) f (h .2) (h .1)))
-  body-reads (t zeros z) m e h =
+      rw (rest-is (rowDigits t (rowOf m)) (drop p l) c (h .0) i, drop-drop w p l) (end-reads t _ (p + w) x (h .2) (h .1)))
+  body-reads (Zeros t z) m e h =
       let p = 6 + prefixBits (rowOf m) in
       covered (same refl (cell-seen t m e (omega arith)) (extra (λ e. e) done)) (ends (h .0) (tail-bits p) (tail-long p (cell t (rowOf m) .0) (omega arith)))
   body-reads E m e h =
       let p = 6 + prefixBits (rowOf m) in
-      covered (extra (λ e. e) (same refl (no-string (8 + n) (rowOf m), λ e. absurd e) done)) (end-reads 7 p (referenceE (rowOf m)) (h .1) (h .0))
+      covered (extra (λ e. e) (extra (λ e. e) done)) (ends tt (tail-bits p) (tail-long p (assetBits (rowOf m)) (omega arith)))
 
   -- the parts of a scheme
   abbrev codeRules : Parts → List Rule
@@ -125,7 +126,7 @@ module _ (b l : List ℕ) (n : ℕ) (d : Digits 2 l) (long : n ≤ length l) (se
       let m = length (c .symbols) in
       let p = 3 + prefixBits (rowOf m) in
       let e : 3 + p ≡ 6 + prefixBits (rowOf m) = omega arith in
-      rw (rest-is prefix (drop 3 l) c tt j, drop-drop p 3 l, e) (body-reads body m (picked c j) (row-sizes body n h (c .symbols) (j .0)))))
+      rw (rest-is company (drop 3 l) c tt j, drop-drop p 3 l, e) (body-reads body m (picked c j) (row-sizes body n h (c .symbols) (j .0)))))
     where
       P-seen : partitionIn b ≡ value 2 (take 3 (drop 3 l))
       P-seen = seen 3 3 (omega arith)
@@ -138,11 +139,11 @@ module _ (b l : List ℕ) (n : ℕ) (d : Digits 2 l) (long : n ≤ length l) (se
           let w = prefixBits (rowAt (value 2 (take 3 (drop 3 l)))) in
           rw (P-seen, drop-drop 3 3 l, seen 6 w (omega (arith, narrow-row (value 2 (take 3 (drop 3 l)))))) Iff·rfl
 
-      picked : (c : Field) → FieldIs prefix (drop 3 l) c → partitionIn b ≡ partition (length (c .symbols))
+      picked : (c : Field) → FieldIs company (drop 3 l) c → partitionIn b ≡ partition (length (c .symbols))
       picked c j =
           let m = length (c .symbols) in
           P-seen ∙ rw (j .1, append-assoc) (read 3 (partition m) _ (omega (arith, has-row (c .symbols) (j .0) .0)) .0)
-  parts-read (integers x y z) h =
+  parts-read (Integers x y z) h =
       covered (extra (λ e. e) (extra (λ e. e) (extra (λ e. e) (extra (λ e. e) done))))
       (goes-on tt d (omega arith) λ c i.
       rw (rest-is (integer x) l c tt i)

@@ -11,8 +11,14 @@ use Rattle.numeral.proofs.Values.{digits-append}
 use Rattle.rules.specs.Answers.{taken}
 use Rattle.rules.specs.declared.Scheme.{Scheme}
 use Rattle.rules.specs.declared.Scheme.the-variants.{Sgtin96, Sgtin198, Sscc96, Sgln96, Sgln195, Grai96, Grai170, Giai96, Gsrn96, Gsrnp96, Gdti96, Gdti174, Gid96}
-use Rattle.rules.specs.Schemes.{Form, prefix, digits, integer, string, Row, rows, rowOf, cell, referenceE, prefixBits, prefixDigits, partition, Body, _then_, _zeros_, E, Parts, F, integers, schemes, about, words, zeroBits}
-use Rattle.rules.specs.Grammar.{Layout, part, last, laid, bodyLayout, layout, Fit, Fits, more, one}
+use Rattle.rules.specs.declared.Last.{Last}
+use Rattle.rules.specs.declared.Last.the-variants.{Integer, String}
+use Rattle.rules.specs.declared.Body.{Body}
+use Rattle.rules.specs.declared.Body.the-variants.{Then, Zeros, E}
+use Rattle.rules.specs.declared.Parts.{Parts}
+use Rattle.rules.specs.declared.Parts.the-variants.{F, Integers}
+use Rattle.rules.specs.Schemes.{company, Row, rows, rowOf, cell, assetBits, prefixBits, prefixDigits, partition, lastForm, schemes, about, words, zeroBits}
+use Rattle.rules.specs.Grammar.{last, Layout, part, end, laid, bodyLayout, layout, Fit, Fits, more, one}
 use Rattle.rules.specs.Coding.{partBits, coded}
 use Rattle.rules.specs.BankNumbers.{headed, fieldsIn}
 use Rattle.rules.proofs.Tests.{both}
@@ -20,22 +26,20 @@ use Rattle.rules.proofs.Rows.{AllRows, by-row, row-fair, row-picked}
 use Rattle.rules.proofs.Fields.{width, Roomy, part-length, part-bits, field-of}
 
 -- A last part takes exactly w bits.
-abbrev pub Ends : Form → ℕ → Type 0
-Ends prefix w = ⊥
-Ends (digits b n) w = ⊥
-Ends (integer b) w = b ≡ w
-Ends (string b) w = (b ≡ w) × (b ≡ 7 * (b / 7)) × (0 < b / 7)
+abbrev pub Ends : Last → ℕ → Type 0
+Ends (Integer b) w = b ≡ w
+Ends (String b) w = (b ≡ w) × (b ≡ 7 * (b / 7)) × (0 < b / 7)
 
 -- The filter, the company prefix, the reference and what follows take n bits, whatever the row.
 abbrev pub RowSizes : Body → ℕ → Row → Type 0
-RowSizes (t then f) n r =
-    (10 ^ cell t r .1 ≤ 2 ^ cell t r .0) × (6 + prefixBits r + cell t r .0 ≤ n) × Ends f (n - (6 + prefixBits r + cell t r .0))
-RowSizes (t zeros z) n r = (10 ^ cell t r .1 ≤ 2 ^ cell t r .0) × (6 + prefixBits r + cell t r .0 ≡ n)
-RowSizes E n r = (6 + prefixBits r ≤ n) × Ends (referenceE r) (n - (6 + prefixBits r))
+RowSizes (Then t l) n r =
+    (10 ^ cell t r .1 ≤ 2 ^ cell t r .0) × (6 + prefixBits r + cell t r .0 ≤ n) × Ends l (n - (6 + prefixBits r + cell t r .0))
+RowSizes (Zeros t z) n r = (10 ^ cell t r .1 ≤ 2 ^ cell t r .0) × (6 + prefixBits r + cell t r .0 ≡ n)
+RowSizes E n r = 6 + prefixBits r + assetBits r ≡ n
 
 abbrev pub PartSizes : Parts → ℕ → Type 0
 PartSizes (F body) n = (46 ≤ n) × AllRows (λ P r. RowSizes body n r) 0 rows
-PartSizes (integers a b c) n = a + b + c ≡ n
+PartSizes (Integers a b c) n = a + b + c ≡ n
 
 -- the bits of a scheme's parts
 abbrev pub content : Scheme → ℕ
@@ -74,8 +78,8 @@ sizes s = sound s .1
 
 -- What fits a layout takes w bits.
 abbrev Takes : Layout → ℕ → Type 0
-Takes (part n f k) w = Roomy f × ((p : List ℕ) → Fit f p → (width f p ≤ w) × Takes (k p) (w - width f p))
-Takes (last n f) w = Roomy f × ((p : List ℕ) → Fit f p → width f p ≡ w)
+Takes (part r f k) w = Roomy f × ((p : List ℕ) → Fit f p → (width f p ≤ w) × Takes (k p) (w - width f p))
+Takes (end r f) w = Roomy f × ((p : List ℕ) → Fit f p → width f p ≡ w)
 
 coded-length : {l : Layout} {ps : List (List ℕ)} → Fits l ps → (w : ℕ) → Takes l w → length (coded l ps) ≡ w
 coded-length (one {f = f} {p = p} h) w t = part-length f p (t .0) h ∙ t .1 p h
@@ -93,30 +97,25 @@ fields-of (more {f = f} {k = k} {p = p} {ps = ps} h i) w t z =
     rw (append-assoc (partBits f p) (coded (k p) ps) z, field-of f p (coded (k p) ps ++ z) (t .0) h, fields-of i (w - width f p) (t .1 p h .1) z)
 
 -- The parts of a scheme.
-end-takes : (n : ℕ) (f : Form) (w : ℕ) → Ends f w → Takes (last n f) w
-end-takes n prefix w h = absurd h
-end-takes n (digits b m) w h = absurd h
-end-takes n (integer b) w h = (tt, λ p f. h)
-end-takes n (string b) w h = ((h .1, h .2), λ p f. h .0)
+end-takes : (l : Last) (w : ℕ) → Ends l w → Takes (end last (lastForm l)) w
+end-takes (Integer b) w h = (tt, λ p f. h)
+end-takes (String b) w h = ((h .1, h .2), λ p f. h .0)
 
 body-takes : (body : Body) (m n : ℕ) → RowSizes body n (rowOf m) → Takes (bodyLayout body m) (n - 3 - (3 + prefixBits (rowOf m)))
-body-takes (t then f) m n h =
+body-takes (Then t l) m n h =
     let r = rowOf m in
     let e : n - 3 - (3 + prefixBits r) - cell t r .0 ≡ n - (6 + prefixBits r + cell t r .0) = omega arith in
-    (h .0, λ p q. (omega arith, rw e (end-takes 7 f _ (h .2))))
-body-takes (t zeros z) m n h = (h .0, λ p q. omega arith)
-body-takes E m n h =
-    let r = rowOf m in
-    let e : n - 3 - (3 + prefixBits r) ≡ n - (6 + prefixBits r) = omega arith in
-    rw e (end-takes 7 (referenceE r) _ (h .1))
+    (h .0, λ p q. (omega arith, rw e (end-takes l _ (h .2))))
+body-takes (Zeros t z) m n h = (h .0, λ p q. omega arith)
+body-takes E m n h = (tt, λ p q. omega arith)
 
 -- a company prefix that fits picks a row
-pub has-row : (ds : List ℕ) → Fit prefix ds → (partition (length ds) < 7) × (prefixDigits (rowOf (length ds)) ≡ length ds)
+pub has-row : (ds : List ℕ) → Fit company ds → (partition (length ds) < 7) × (prefixDigits (rowOf (length ds)) ≡ length ds)
 has-row ds q =
     let (x, y) = both (leb 6 (length ds)) (leb (length ds) 12) (q .shape) in
     row-picked (length ds) (leb→le 6 (length ds) x) (leb→le (length ds) 12 y)
 
-pub row-sizes : (body : Body) (n : ℕ) → PartSizes (F body) n → (ds : List ℕ) → Fit prefix ds → RowSizes body n (rowOf (length ds))
+pub row-sizes : (body : Body) (n : ℕ) → PartSizes (F body) n → (ds : List ℕ) → Fit company ds → RowSizes body n (rowOf (length ds))
 row-sizes body n h ds q = by-row (λ P r. RowSizes body n r) (h .1) (partition (length ds)) (has-row ds q .0)
 
 takes : (p : Parts) (n : ℕ) → PartSizes p n → Takes (laid p) n
@@ -127,7 +126,7 @@ takes (F body) n h = (
     (tt, λ ds q. (omega (arith, row-fair (partition (length ds)) (has-row ds q .0) .narrow), body-takes body (length ds) n (row-sizes body n h ds q))),
   ),
 )
-takes (integers a b c) n h = (tt, λ p q. (omega arith, (tt, λ p q. (omega arith, (tt, λ p q. omega arith)))))
+takes (Integers a b c) n h = (tt, λ p q. (omega arith, (tt, λ p q. (omega arith, (tt, λ p q. omega arith)))))
 
 pub content-length : (s : Scheme) {ps : List (List ℕ)} → Fits (layout s) ps → length (coded (layout s) ps) ≡ content s
 content-length s h = coded-length h (content s) (takes (about s .parts) (content s) (sizes s .parts))

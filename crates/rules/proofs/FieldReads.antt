@@ -13,7 +13,7 @@ use Rattle.numeral.proofs.Values.{digits-take, digits-drop}
 use Rattle.numeral.proofs.Shortest.{value-shortest}
 use Rattle.numeral.proofs.Spreads.{length-gather, spread-gather, gather-at}
 use Rattle.rules.specs.Answers.{demand}
-use Rattle.rules.specs.Schemes.{Form, prefix, digits, integer, string, rowAt, partition, prefixBits, prefixDigits}
+use Rattle.rules.specs.Schemes.{Form, company, digits, integer, string, rowAt, partition, prefixBits, prefixDigits}
 use Rattle.rules.specs.Grammar.{Fit}
 use Rattle.rules.specs.Coding.{partBits}
 use Rattle.rules.specs.BankNumbers.{Field, field, fieldIn, decimal, stringIn}
@@ -35,7 +35,7 @@ abbrev pub groupOf : List ℕ → ℕ → ℕ
 groupOf l i = value 2 (take 7 (drop (7 * i) l))
 
 abbrev pub fieldRules : Form → List ℕ → List Rule
-fieldRules prefix l =
+fieldRules company l =
     let r = rowAt (value 2 (take 3 l)) in
     rule 16 (value 2 (take 3 l) ≡ 7) ∷ rule 17 (10 ^ prefixDigits r ≤ value 2 (take (prefixBits r) (drop 3 l))) ∷ []
 fieldRules (digits b n) l = rule 18 (10 ^ n ≤ value 2 (take b l)) ∷ []
@@ -44,7 +44,7 @@ fieldRules (string b) l = rule 19 (WrongGroups (b / 7) (groupOf (take b l))) ∷
 
 -- the bits that must be there
 abbrev pub widest : Form → ℕ
-widest prefix = 43
+widest company = 43
 widest (digits b n) = b
 widest (integer b) = b
 widest (string b) = b
@@ -97,8 +97,8 @@ field-reads (integer b) l r d w =
 field-reads (digits b n) l r d w =
     reads-weaken _ (DecimalIs b n l) (FieldIs (digits b n) l) (decimal 18 b n l) (decimal-reads 18 b n l (lit< tt) d w) λ c i.
     (record { symbols = i .0; shape = rw (i .1) (eqb-refl n); size = tt }, i .2)
-field-reads prefix l r d w =
-    check _ (FieldIs prefix l) 16 (P ≡ 7) (T (not (eqb P 7))) (demand (not (eqb P 7)) 16) _ (lit< tt)
+field-reads company l r d w =
+    check _ (FieldIs company l) 16 (P ≡ 7) (T (not (eqb P 7))) (demand (not (eqb P 7)) 16) _ (lit< tt)
     (settled-demand 16 (P ≡ 7) (not (eqb P 7)) (λ h. eqb→eq P 7 (not-not (eqb P 7) h)) (apart P 7)) λ t.
     row (omega (arith, apart P 7 t, front 3 l d (omega arith) .1))
   where
@@ -106,12 +106,12 @@ field-reads prefix l r d w =
     P = value 2 (take 3 l)
 
     row : P < 7
-        → Reads (rule 17 (10 ^ prefixDigits (rowAt P) ≤ value 2 (take (prefixBits (rowAt P)) (drop 3 l))) ∷ []) (FieldIs prefix l) (decimal 17 (prefixBits (rowAt P)) (prefixDigits (rowAt P)) (drop 3 l))
+        → Reads (rule 17 (10 ^ prefixDigits (rowAt P) ≤ value 2 (take (prefixBits (rowAt P)) (drop 3 l))) ∷ []) (FieldIs company l) (decimal 17 (prefixBits (rowAt P)) (prefixDigits (rowAt P)) (drop 3 l))
     row u =
         let f = row-fair (value 2 (take 3 l)) u in
         let b = prefixBits (rowAt (value 2 (take 3 l))) in
         let n = prefixDigits (rowAt (value 2 (take 3 l))) in
-        reads-weaken _ (DecimalIs b n (drop 3 l)) (FieldIs prefix l) (decimal 17 b n (drop 3 l))
+        reads-weaken _ (DecimalIs b n (drop 3 l)) (FieldIs company l) (decimal 17 b n (drop 3 l))
         (decimal-reads 17 b n (drop 3 l) (lit< tt) (digits-drop 2 3 l d) (rw length-drop (omega arith))) λ c i.
         let p : partition (length (c .symbols)) ≡ value 2 (take 3 l) = ap partition (i .1) ∙ f .picked in (
           record { symbols = i .0; shape = and (leb 6 (length (c .symbols))) (leb (length (c .symbols)) 12) (le→leb 6 (length (c .symbols)) (omega arith)) (le→leb (length (c .symbols)) 12 (omega arith)); size = tt },

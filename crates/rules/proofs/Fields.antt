@@ -12,7 +12,7 @@ use Rattle.numeral.proofs.Values.{length-numeral, digits-numeral, digits-append
 use Rattle.numeral.proofs.Spreads.{length-spread, digits-spread, spread-append, gather-spread}
 use Rattle.rules.specs.Answers.{taken}
 use Rattle.rules.specs.Bytes.{all}
-use Rattle.rules.specs.Schemes.{Form, prefix, digits, integer, string, rowOf, partition, prefixBits, prefixDigits}
+use Rattle.rules.specs.Schemes.{Form, company, digits, integer, string, rowOf, partition, prefixBits, prefixDigits}
 use Rattle.rules.specs.Characters.{tableA1, character}
 use Rattle.rules.specs.Grammar.{Fit}
 use Rattle.rules.specs.Coding.{binary, filled, partBits}
@@ -25,13 +25,13 @@ use Rattle.rules.proofs.Groups.{nonzero, string-of}
 
 -- The bits that a part takes; that a form holds what it should.
 abbrev pub width : Form → List ℕ → ℕ
-width prefix ds = 3 + prefixBits (rowOf (length ds))
+width company ds = 3 + prefixBits (rowOf (length ds))
 width (digits b n) ds = b
 width (integer b) ds = b
 width (string b) cs = b
 
 abbrev pub Roomy : Form → Type 0
-Roomy prefix = Unit
+Roomy company = Unit
 Roomy (digits b n) = 10 ^ n ≤ 2 ^ b
 Roomy (integer b) = Unit
 Roomy (string b) = (b ≡ 7 * (b / 7)) × (0 < b / 7)
@@ -66,7 +66,7 @@ filled-is b cs e r =
     rw (spread-append, spread-zeros, length-spread, n)
 
 pub part-length : (f : Form) (p : List ℕ) → Roomy f → Fit f p → length (partBits f p) ≡ width f p
-part-length prefix ds r h = rw (length-append, length-numeral, length-numeral)
+part-length company ds r h = rw (length-append, length-numeral, length-numeral)
 part-length (digits b n) ds r h = length-numeral 2 b (value 10 ds)
 part-length (integer b) ds r h = length-numeral 2 b (value 10 ds)
 part-length (string b) cs r h =
@@ -74,7 +74,7 @@ part-length (string b) cs r h =
     simp (length-append, length-replicate, length-spread) (omega (arith, r))
 
 pub part-bits : (f : Form) (p : List ℕ) → Digits 2 (partBits f p)
-part-bits prefix ds =
+part-bits company ds =
     let n = length ds in
     digits-append 2 (binary 3 (partition n)) (binary (prefixBits (rowOf n)) (value 10 ds)) (digits-numeral 2 3 (partition n) (lit< tt)) (digits-numeral 2 (prefixBits (rowOf n)) (value 10 ds) (lit< tt))
 part-bits (digits b n) ds = digits-numeral 2 b (value 10 ds) (lit< tt)
@@ -89,7 +89,7 @@ field-of (integer b) ds z r h =
     let v = value 10 ds in
     let (a, d) = read b v z (ltb→lt v (2 ^ b) (h .size)) in
     rw (a, d, whole-of ds (all-digits ds (h .symbols)) (h .shape))
-field-of prefix ds z r h =
+field-of company ds z r h =
     let n = length ds in
     let (x, y) = both (leb 6 n) (leb n 12) (h .shape) in
     let (l, e) = row-picked n (leb→le 6 n x) (leb→le n 12 y) in

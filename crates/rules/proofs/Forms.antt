@@ -9,7 +9,7 @@ use lib.Dec.{T, leb, leb→le, ltb→lt, le→leb, lt→ltb, nleb→lt, nltb→l
 use lib.ListN.{length}
 use Rattle.numeral.specs.Numeral.{value}
 use Rattle.rules.specs.Bytes.{all}
-use Rattle.rules.specs.Schemes.{Form, prefix, digits, integer, string}
+use Rattle.rules.specs.Schemes.{Form, company, digits, integer, string}
 use Rattle.rules.specs.Grammar.{symbol, plainNumber, shaped, sized, spelled}
 use Rattle.rules.specs.TextNumbers.{symbolsIn, kept, formed}
 use Rattle.rules.specs.Conditions.{Decimal, Whole, zero-alone, leading, Formed, TooLarge}
@@ -23,13 +23,13 @@ abbrev pub Symbols : Form → List ℕ → List ℕ → Type 0
 Symbols f x p = T (all (symbol f) p) × (x ≡ spelled f p)
 
 symbols-is : (f : Form) (x : List ℕ) → Gives (Symbols f x) (symbolsIn f x)
-symbols-is prefix x = digits-is x
+symbols-is company x = digits-is x
 symbols-is (digits b n) x = digits-is x
 symbols-is (integer b) x = digits-is x
 symbols-is (string b) x = characters-is x
 
 symbols-of : (f : Form) (p : List ℕ) → T (all (symbol f) p) → symbolsIn f (spelled f p) ≡ some p
-symbols-of prefix p h = digits-of p h
+symbols-of company p h = digits-of p h
 symbols-of (digits b n) p h = digits-of p h
 symbols-of (integer b) p h = digits-of p h
 symbols-of (string b) p h = characters-of p h
@@ -52,14 +52,14 @@ whole-is zero-alone = tt
 whole-is (leading {d = d} {ds = []} h) = tt
 whole-is (leading {d = d} {ds = e ∷ ds} h) = lt→ltb 0 d h
 
-decimal-of : (x p : List ℕ) → Symbols prefix x p → Decimal x p
+decimal-of : (x p : List ℕ) → Symbols company x p → Decimal x p
 decimal-of x p s = (all-digits p (s .0), s .1)
 
-decimal-is : (x p : List ℕ) → Decimal x p → Symbols prefix x p
+decimal-is : (x p : List ℕ) → Decimal x p → Symbols company x p
 decimal-is x p d = (digits-all p (d .0), d .1)
 
 pub formed-of : (f : Form) (x p : List ℕ) → Symbols f x p → T (shaped f p) → Formed f x
-formed-of prefix x p s h =
+formed-of company x p s h =
     let (a, b) = both (leb 6 (length p)) (leb (length p) 12) h in
     (p, decimal-of x p s, leb→le 6 (length p) a, leb→le (length p) 12 b)
 formed-of (digits b n) x p s h = (p, decimal-of x p s, eqb→eq (length p) n h)
@@ -67,7 +67,7 @@ formed-of (integer b) x p s h = (p, decimal-of x p s, whole-of p h)
 formed-of (string b) x p s h = (p, s, ltb→lt 0 (length p) h)
 
 formed-is : (f : Form) (x : List ℕ) → Formed f x → (p : List ℕ) × Symbols f x p × T (shaped f p)
-formed-is prefix x r =
+formed-is company x r =
     (r .0, decimal-is x (r .0) (r .1), and (leb 6 (length (r .0))) (leb (length (r .0)) 12) (le→leb 6 (length (r .0)) (r .2)) (le→leb (length (r .0)) 12 (r .3)))
 formed-is (digits b n) x r = (r .0, decimal-is x (r .0) (r .1), rw (r .2) (eqb-refl n))
 formed-is (integer b) x r = (r .0, decimal-is x (r .0) (r .1), whole-is (r .2))
@@ -94,13 +94,13 @@ formed-decides f x = go (symbolsIn f x) refl (symbols-is f x)
     go (some p) e s = shape p s (shaped f p) refl
 
 pub large-of : (f : Form) (x p : List ℕ) → Symbols f x p → T (not (sized f p)) → TooLarge f x
-large-of prefix x p s h = h
+large-of company x p s h = h
 large-of (digits b n) x p s h = h
 large-of (integer b) x p s h = (p, decimal-of x p s, nltb→le (value 10 p) (2 ^ b) h)
 large-of (string b) x p s h = (p, s, nleb→lt (length p) (b / 7) h)
 
 pub not-large : (f : Form) (x p : List ℕ) → Symbols f x p → T (sized f p) → ¬ (TooLarge f x)
-not-large prefix x p s h r = r
+not-large company x p s h r = r
 not-large (digits b n) x p s h r = r
 not-large (integer b) x p s h r =
     let e = one-reading (integer b) x (r .0) p (decimal-is x (r .0) (r .1)) s in

@@ -12,9 +12,13 @@ use Rattle.numeral.proofs.Shortest.{length-shortest, size-le}
 use Rattle.rules.specs.Bytes.{digitsText, bytes, hexText}
 use Rattle.rules.specs.declared.Scheme.{Scheme}
 use Rattle.rules.specs.declared.Scheme.the-variants.{Sgtin96, Sgtin198, Sscc96, Sgln96, Sgln195, Grai96, Grai170, Giai96, Gsrn96, Gsrnp96, Gdti96, Gdti174, Gid96}
-use Rattle.rules.specs.Schemes.{Form, prefix, digits, integer, string, Row, rows, rowOf, cell, referenceE, prefixDigits, partition, Body, _then_, _zeros_, E, Parts, F, integers, schemes, about}
+use Rattle.rules.specs.declared.Body.{Body}
+use Rattle.rules.specs.declared.Body.the-variants.{Then, Zeros, E}
+use Rattle.rules.specs.declared.Parts.{Parts}
+use Rattle.rules.specs.declared.Parts.the-variants.{F, Integers}
+use Rattle.rules.specs.Schemes.{Form, company, digits, integer, string, Row, rows, rowOf, cell, assetBits, prefixDigits, partition, lastForm, schemes, about}
 use Rattle.rules.specs.Characters.{tableA1, escaped, plain, spelling, stringText}
-use Rattle.rules.specs.Grammar.{Layout, part, last, laid, bodyLayout, Fit, Fits, more, one, spelled, written, Tag, TagText, textOf, start, label}
+use Rattle.rules.specs.Grammar.{last, Layout, part, end, laid, bodyLayout, Fit, Fits, more, one, spelled, written, Tag, TagText, textOf, start, label}
 use Rattle.rules.specs.Coding.{wordCount, within, bankOf}
 use Rattle.rules.specs.TextNumbers.{tagOfText, textNumber}
 use Rattle.rules.specs.Raw.{afi, afiText, rawText}
@@ -28,14 +32,14 @@ use Rattle.rules.proofs.BankReads.{at-lt}
 
 -- A part's characters.
 abbrev longest : Form → List ℕ → ℕ
-longest prefix ds = prefixDigits (rowOf (length ds))
+longest company ds = prefixDigits (rowOf (length ds))
 longest (digits b n) ds = n
 longest (integer b) ds = b / 3
 longest (string b) cs = 3 * (b / 7)
 
 -- b / 3 digits are enough for b bits
 abbrev Enough : Form → Type 0
-Enough prefix = Unit
+Enough company = Unit
 Enough (digits b n) = Unit
 Enough (integer b) = (0 < b / 3) × (2 ^ b ≤ 10 ^ (b / 3))
 Enough (string b) = Unit
@@ -49,7 +53,7 @@ string-length (c ∷ cs) = go (plain c) (string-length cs)
     go false h = omega arith
 
 part-length : (f : Form) (p : List ℕ) → Enough f → Fit f p → length (spelled f p) ≤ longest f p
-part-length prefix ds e h = rw length-map (omega (arith, has-row ds h .1))
+part-length company ds e h = rw length-map (omega (arith, has-row ds h .1))
 part-length (digits b n) ds e h = rw length-map (omega (arith, eqb→eq (length ds) n (h .shape)))
 part-length (integer b) ds e h =
     let v = value 10 ds in
@@ -60,8 +64,8 @@ part-length (string b) cs e h = omega (arith, string-length cs, leb→le (length
 
 -- What fits a layout has a text of at most m characters.
 abbrev Within : Layout → ℕ → Type 0
-Within (part n f k) m = Enough f × ((p : List ℕ) → Fit f p → (longest f p < m) × Within (k p) (m - suc (longest f p)))
-Within (last n f) m = Enough f × ((p : List ℕ) → Fit f p → longest f p ≤ m)
+Within (part r f k) m = Enough f × ((p : List ℕ) → Fit f p → (longest f p < m) × Within (k p) (m - suc (longest f p)))
+Within (end r f) m = Enough f × ((p : List ℕ) → Fit f p → longest f p ≤ m)
 
 written-length : {l : Layout} {ps : List (List ℕ)} → Fits l ps → (m : ℕ) → Within l m → length (written l ps) ≤ m
 written-length (one {f = f} {p = p} h) m w = omega (arith, part-length f p (w .0) h, w .1 p h)
@@ -80,31 +84,31 @@ integer-within b m h =
 
 -- as it is seen row by row: behind the filter, the company prefix, the reference and what follows
 abbrev EndWithin : Form → ℕ → Type 0
-EndWithin prefix m = ⊥
+EndWithin company m = ⊥
 EndWithin (digits b n) m = n ≤ m
 EndWithin (integer b) m = T (every (integerTests b m))
 EndWithin (string b) m = 3 * (b / 7) ≤ m
 
 abbrev BodyWithin : Body → ℕ → Row → Type 0
-BodyWithin (t then f) m r = (cell t r .1 < m) × EndWithin f (m - suc (cell t r .1))
-BodyWithin (t zeros z) m r = cell t r .1 ≤ m
-BodyWithin E m r = EndWithin (referenceE r) m
+BodyWithin (Then t l) m r = (cell t r .1 < m) × EndWithin (lastForm l) (m - suc (cell t r .1))
+BodyWithin (Zeros t z) m r = cell t r .1 ≤ m
+BodyWithin E m r = EndWithin (integer (assetBits r)) m
 
 abbrev PartsWithin : Parts → ℕ → Type 0
 PartsWithin (F body) m = (2 ≤ m) × AllRows (λ P r. (prefixDigits r < m - 2) × BodyWithin body (m - 2 - suc (prefixDigits r)) r) 0 rows
-PartsWithin (integers a b c) m =
+PartsWithin (Integers a b c) m =
     EndWithin (integer a) m × EndWithin (integer b) (m - suc (a / 3)) × EndWithin (integer c) (m - suc (a / 3) - suc (b / 3)) × (a / 3 + b / 3 + 2 ≤ m)
 
-end-within : (n : ℕ) (f : Form) (m : ℕ) → EndWithin f m → Within (last n f) m
-end-within n prefix m h = absurd h
-end-within n (digits b k) m h = (tt, λ p q. h)
-end-within n (integer b) m h = let (e, l) = integer-within b m h in (e, λ p q. l)
-end-within n (string b) m h = (tt, λ p q. h)
+end-within : (f : Form) (m : ℕ) → EndWithin f m → Within (end last f) m
+end-within company m h = absurd h
+end-within (digits b k) m h = (tt, λ p q. h)
+end-within (integer b) m h = let (e, l) = integer-within b m h in (e, λ p q. l)
+end-within (string b) m h = (tt, λ p q. h)
 
 body-within : (body : Body) (n m : ℕ) → BodyWithin body m (rowOf n) → Within (bodyLayout body n) m
-body-within (t then f) n m h = (tt, λ p q. (h .0, end-within 7 f (m - suc (cell t (rowOf n) .1)) (h .1)))
-body-within (t zeros z) n m h = (tt, λ p q. h)
-body-within E n m h = end-within 7 (referenceE (rowOf n)) m h
+body-within (Then t l) n m h = (tt, λ p q. (h .0, end-within (lastForm l) (m - suc (cell t (rowOf n) .1)) (h .1)))
+body-within (Zeros t z) n m h = (tt, λ p q. h)
+body-within E n m h = end-within (integer (assetBits (rowOf n))) m h
 
 parts-within : (p : Parts) (m : ℕ) → PartsWithin p m → Within (laid p) m
 parts-within (F body) m h = (
@@ -112,10 +116,10 @@ parts-within (F body) m h = (
   λ p q. (omega arith, (tt, λ ds q. let (a, r) = row ds q in (a, body-within body (length ds) _ r))),
 )
   where
-    row : (ds : List ℕ) → Fit prefix ds → (prefixDigits (rowOf (length ds)) < m - 2) × BodyWithin body (m - 2 - suc (prefixDigits (rowOf (length ds)))) (rowOf (length ds))
+    row : (ds : List ℕ) → Fit company ds → (prefixDigits (rowOf (length ds)) < m - 2) × BodyWithin body (m - 2 - suc (prefixDigits (rowOf (length ds)))) (rowOf (length ds))
     row ds q = by-row (λ P r. (prefixDigits r < m - 2) × BodyWithin body (m - 2 - suc (prefixDigits r)) r) (h .1) (partition (length ds)) (has-row ds q .0)
-parts-within (integers a b c) m h =
-    (integer-within a m (h .0) .0, λ p q. (omega arith, (integer-within b (m - suc (a / 3)) (h .1) .0, λ p q. (omega arith, end-within 7 (integer c) (m - suc (a / 3) - suc (b / 3)) (h .2)))))
+parts-within (Integers a b c) m h =
+    (integer-within a m (h .0) .0, λ p q. (omega arith, (integer-within b (m - suc (a / 3)) (h .1) .0, λ p q. (omega arith, end-within (integer c) (m - suc (a / 3) - suc (b / 3)) (h .2)))))
 
 -- what is left of 99 characters behind the start, the name and the colon
 abbrev left : Scheme → ℕ

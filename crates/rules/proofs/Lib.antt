@@ -21,6 +21,7 @@ pub mod Exact
 pub mod Lengths
 pub mod OneAnswer
 pub mod Again
+pub mod CallsExact
 pub mod Numbered
 pub mod ScreenShows
 pub mod Tables

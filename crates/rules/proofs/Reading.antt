@@ -13,9 +13,13 @@ use Rattle.numeral.specs.Numeral.{value}
 use Rattle.numeral.proofs.Arithmetic.{lt-or-ge}
 use Rattle.rules.specs.Answers.{taken, _>>=_, _>>_, demand, given}
 use Rattle.rules.specs.Bytes.{among, upto, behind, dot, digitsText}
-use Rattle.rules.specs.Schemes.{Form, integer, Body, _then_, _zeros_, E, Parts, F, integers, reference, referenceE, rowOf}
-use Rattle.rules.specs.Grammar.{Layout, part, last, laid, bodyLayout, Fit, Fits, more, one, written, spelled, digit, shaped, sized}
-use Rattle.rules.specs.TextNumbers.{formed, partIn, lastIn, partsIn}
+use Rattle.rules.specs.declared.Body.{Body}
+use Rattle.rules.specs.declared.Body.the-variants.{Then, Zeros, E}
+use Rattle.rules.specs.declared.Parts.{Parts}
+use Rattle.rules.specs.declared.Parts.the-variants.{F, Integers}
+use Rattle.rules.specs.Schemes.{Form, integer, rowDigits, assetBits, lastForm, rowOf}
+use Rattle.rules.specs.Grammar.{Role, filter, prefix, reference, last, Layout, part, end, laid, bodyLayout, Fit, Fits, more, one, written, spelled, digit, shaped, sized}
+use Rattle.rules.specs.TextNumbers.{formed, numberAt, partIn, lastIn, partsIn}
 use Rattle.rules.specs.Conditions.{Rule, rule, Whole, zero-alone, leading, Formed, TooLarge, Stands, NoFilter, NoPrefix, NoCell, NoReference, OfEnd, OfLast}
 use Rattle.rules.proofs.Answers.{Decides, Settled, Reads, settled-given, settled-demand, settled-as, step, check, reads-map, Covers, done, same, extra, reads-covers}
 use Rattle.rules.proofs.Tests.{and}
@@ -63,6 +67,12 @@ last-reads n f t z =
     (tt, (record { symbols = s .0 .0; shape = s .1; size = b }, s .0 .1))
 
 -- The parts of a layout, and the rules of its text.
+some-number : (r : Role) → 0 < numberAt r
+some-number filter = lit< tt
+some-number prefix = lit< tt
+some-number reference = lit< tt
+some-number last = lit< tt
+
 abbrev PartsAre : Layout → List ℕ → List (List ℕ) → Type 0
 PartsAre l t ps = Fits l ps × (t ≡ written l ps)
 
@@ -72,15 +82,16 @@ pub record LayoutReads (rs : List Rule) (l : Layout) (t : List ℕ) : Type 0 whe
 covered : {rs qs : List Rule} {l : Layout} {t : List ℕ} → Covers rs qs → LayoutReads rs l t → LayoutReads qs l t
 covered {l = l} {t = t} c h = record { reads = reads-covers (PartsAre l t) (partsIn l t) c (h .reads) }
 
-ends : (n : ℕ) (f : Form) (t : List ℕ) → 0 < n → LayoutReads (rule n (¬ (Formed f t)) ∷ rule 8 (TooLarge f t) ∷ []) (last n f) t
-ends n f t z =
-    record { reads = reads-map _ (LastIs f t) (PartsAre (last n f) t) (_∷ []) (lastIn n f t) (last-reads n f t z) λ p i. (one (i .0), i .1) }
+ends : (r : Role) (f : Form) (t : List ℕ) → LayoutReads (rule (numberAt r) (¬ (Formed f t)) ∷ rule 8 (TooLarge f t) ∷ []) (end r f) t
+ends r f t =
+    let n = numberAt r in
+    record { reads = reads-map _ (LastIs f t) (PartsAre (end r f) t) (_∷ []) (lastIn n f t) (last-reads n f t (some-number r)) λ p i. (one (i .0), i .1) }
 
-goes-on : {n : ℕ} {f : Form} {k : List ℕ → Layout} {t : List ℕ} {P : Type 0} {rs : List Rule} → 0 < n → (¬ (Stands f t)) ↔ P
-    → ((p : List ℕ) → PartIs f t p → LayoutReads rs (k p) (behind dot t)) → LayoutReads (rule n P ∷ rs) (part n f k) t
-goes-on {n} {f} {k} {t} {P} {rs} z e h = record {
-  reads = step rs (PartsAre (part n f k) t) n P (PartIs f t) (partIn n f t) _ z (settled-as n (¬ (Stands f t)) P (PartIs f t) (partIn n f t) e (part-settled n f t)) λ p i.
-      reads-map rs (PartsAre (k p) (behind dot t)) (PartsAre (part n f k) t) (p ∷_) (partsIn (k p) (behind dot t)) (h p i .reads) λ ps j.
+goes-on : {r : Role} {f : Form} {k : List ℕ → Layout} {t : List ℕ} {P : Type 0} {rs : List Rule} → (¬ (Stands f t)) ↔ P
+    → ((p : List ℕ) → PartIs f t p → LayoutReads rs (k p) (behind dot t)) → LayoutReads (rule (numberAt r) P ∷ rs) (part r f k) t
+goes-on {r} {f} {k} {t} {P} {rs} e h = let n = numberAt r in record {
+  reads = step rs (PartsAre (part r f k) t) n P (PartIs f t) (partIn n f t) _ (some-number r) (settled-as n (¬ (Stands f t)) P (PartIs f t) (partIn n f t) e (part-settled n f t)) λ p i.
+      reads-map rs (PartsAre (k p) (behind dot t)) (PartsAre (part r f k) t) (p ∷_) (partsIn (k p) (behind dot t)) (h p i .reads) λ ps j.
       (more (i .0) (j .0), i .1 ∙ ap (λ u. spelled f p ++ dot ∷ u) (j .1));
 }
 
@@ -92,10 +103,10 @@ bodyRules body n w =
     rule 8 (OfEnd TooLarge body n w) ∷ []
 
 body-reads : (body : Body) (n : ℕ) (w : List ℕ) → LayoutReads (bodyRules body n w) (bodyLayout body n) w
-body-reads (t then f) n w = goes-on (lit< tt) Iff·rfl λ p i. ends 7 f (behind dot w) (lit< tt)
-body-reads (t zeros z) n w =
-    covered (same refl Iff·rfl (extra (λ e. e) (same refl Iff·rfl done))) (ends 6 (reference t (rowOf n)) w (lit< tt))
-body-reads E n w = covered (extra (λ e. e) (same refl Iff·rfl (same refl Iff·rfl done))) (ends 7 (referenceE (rowOf n)) w (lit< tt))
+body-reads (Then t l) n w = goes-on Iff·rfl λ p i. ends last (lastForm l) (behind dot w)
+body-reads (Zeros t z) n w =
+    covered (same refl Iff·rfl (extra (λ e. e) (same refl Iff·rfl done))) (ends reference (rowDigits t (rowOf n)) w)
+body-reads E n w = covered (extra (λ e. e) (same refl Iff·rfl (same refl Iff·rfl done))) (ends last (integer (assetBits (rowOf n))) w)
 
 -- A filter is an integer of three bits.
 one-digit : {ds : List ℕ} → Whole ds → value 10 ds < 8 → (d : ℕ) × (d < 8) × (ds ≡ d ∷ [])
@@ -137,13 +148,13 @@ partRules p u =
 
 pub parts-reads : (p : Parts) (u : List ℕ) → LayoutReads (partRules p u) (laid p) u
 parts-reads (F body) u =
-    goes-on (lit< tt) (Iff·not (filter-stands u)) λ p i.
-    goes-on (lit< tt) Iff·rfl λ ds j.
+    goes-on (Iff·not (filter-stands u)) λ p i.
+    goes-on Iff·rfl λ ds j.
     let v = behind dot u in
     let e : length (upto dot v) ≡ length ds = ap length (j .2) ∙ length-map ds _ in
     rw e (body-reads body (length ds) (behind dot v))
-parts-reads (integers a b c) u =
+parts-reads (Integers a b c) u =
     covered (extra (λ e. e) (same refl Iff·rfl (same refl Iff·rfl (same refl Iff·rfl (same refl Iff·rfl done)))))
-    (goes-on (lit< tt) Iff·rfl λ p i.
-    goes-on (lit< tt) Iff·rfl λ q j.
-    ends 7 (integer c) (behind dot (behind dot u)) (lit< tt))
+    (goes-on Iff·rfl λ p i.
+    goes-on Iff·rfl λ q j.
+    ends last (integer c) (behind dot (behind dot u)))

@@ -16,10 +16,10 @@ use Rattle.rules.specs.Coding.{within}
 use Rattle.rules.specs.Raw.{rawText}
 use Rattle.rules.specs.Screen.{screen}
 use Rattle.rules.specs.Promises.{OnScreen}
-use Rattle.rules.specs.Calls.{Call, line, bankRoom, textToBank, bankToText, rawLine}
+use Rattle.rules.specs.Calls.{Call, wrote, bankRoom, textToBank, bankToText, rawLine}
 use Rattle.rules.proofs.Tests.{is-false}
 use Rattle.rules.proofs.Numbered.{from}
-use Rattle.rules.proofs.Again.{line-is, again}
+use Rattle.rules.proofs.Again.{wrote-is, again}
 use Rattle.rules.proofs.OneAnswer.{one-answer-of-raw-line}
 
 -- for every number 0 to 255: 0, then 1 to 10, then 11 to 19, then 20 to 255
@@ -66,43 +66,43 @@ unfolding start
 empty-differs r = let e : _≡_ {A = ℕ} 0 117 = ap (λ l. getD l 0 0) (r .1) in omega arith
 
 -- what the raw line's call wrote: the raw line, or nothing
-raw-wrote : (b out : List ℕ) → (line (rawLine b out) ≡ rawText b) ⊎ (line (rawLine b out) ≡ [])
+raw-wrote : (b out : List ℕ) → (wrote (rawLine b out) ≡ rawText b) ⊎ (wrote (rawLine b out) ≡ [])
 raw-wrote b out = go (c .number) refl
   where
     c : Call
     c = rawLine b out
 
-    go : (n : ℕ) → rawLine b out .number ≡ n → (line (rawLine b out) ≡ rawText b) ⊎ (line (rawLine b out) ≡ [])
+    go : (n : ℕ) → rawLine b out .number ≡ n → (wrote (rawLine b out) ≡ rawText b) ⊎ (wrote (rawLine b out) ≡ [])
     go zero e =
         let (w, r, n, o) = one-answer-of-raw-line b out (rawLine b out) .1 refl .accepted e in
-        inl (line-is out w (rawLine b out) n o ∙ r)
+        inl (wrote-is out w (rawLine b out) n o ∙ r)
     go (suc n) e =
         let (w, o) = one-answer-of-raw-line b out (rawLine b out) .1 refl .refused (λ z. omega arith) in
         inr (rw w)
 
-raw-wrote-differs : (b out : List ℕ) → ¬ (LooksLikeATag (line (rawLine b out)))
+raw-wrote-differs : (b out : List ℕ) → ¬ (LooksLikeATag (wrote (rawLine b out)))
 raw-wrote-differs b out r = ⊎-elim (λ e. raw-differs b (rw e at r)) (λ e. empty-differs (rw e at r)) (raw-wrote b out)
 
 -- a refusal, whatever its number, shows nothing that begins `urn:epc:tag:`
-pub refusal-shows-no-tag : (tag b out : List ℕ) (n : ℕ) → ¬ (n ≡ 0) → ¬ (LooksLikeATag (screen tag (line (rawLine b out)) n))
+pub refusal-shows-no-tag : (tag b out : List ℕ) (n : ℕ) → ¬ (n ≡ 0) → ¬ (LooksLikeATag (screen tag (wrote (rawLine b out)) n))
 unfolding screen
 refusal-shows-no-tag tag b out n z =
     rw (is-false (eqb n 0) (not-T (eqb n 0) λ e. z (eqb→eq n 0 e))) (go (leb 11 n && leb n 19))
   where
-    go : (t : Bool) → ¬ (LooksLikeATag (cond t (line (rawLine b out)) []))
+    go : (t : Bool) → ¬ (LooksLikeATag (cond t (wrote (rawLine b out)) []))
     go true = raw-wrote-differs b out
     go false = empty-differs
 
 -- the line on the screen for a bank
 abbrev pub onScreen : List ℕ → List ℕ → List ℕ → List ℕ
-onScreen b out out′ = screen (line (bankToText b out)) (line (rawLine b out′)) (bankToText b out .number)
+onScreen b out out′ = screen (wrote (bankToText b out)) (wrote (rawLine b out′)) (bankToText b out .number)
 
 -- a tag URI is shown only if writing it again gives the same bank
 pub screen-rule : (b out out′ out″ : List ℕ) → Digits 256 b → bankRoom ≤ length out″ → LooksLikeATag (onScreen b out out′)
-    → (textToBank (onScreen b out out′) out″ .number ≡ 0) × (line (textToBank (onScreen b out out′) out″) ≡ within b)
+    → (textToBank (onScreen b out out′) out″ .number ≡ 0) × (wrote (textToBank (onScreen b out out′) out″) ≡ within b)
 screen-rule b out out′ out″ d l r = go (bankToText b out .number) refl
   where
     go : (n : ℕ) → bankToText b out .number ≡ n
-        → (textToBank (onScreen b out out′) out″ .number ≡ 0) × (line (textToBank (onScreen b out out′) out″) ≡ within b)
+        → (textToBank (onScreen b out out′) out″ .number ≡ 0) × (wrote (textToBank (onScreen b out out′) out″) ≡ within b)
     go zero e = unfold screen in rw e (again b out out″ d l e)
-    go (suc n) e = absurd (refusal-shows-no-tag (line (bankToText b out)) b out′ (bankToText b out .number) (λ z. omega arith) r)
+    go (suc n) e = absurd (refusal-shows-no-tag (wrote (bankToText b out)) b out′ (bankToText b out .number) (λ z. omega arith) r)

@@ -11,8 +11,12 @@ use Rattle.rules.specs.Answers.{taken, given}
 use Rattle.rules.specs.Bytes.{dot}
 use Rattle.rules.specs.declared.Scheme.{Scheme}
 use Rattle.rules.specs.declared.Scheme.the-variants.{Sgtin96, Sgtin198, Sscc96, Sgln96, Sgln195, Grai96, Grai170, Giai96, Gsrn96, Gsrnp96, Gdti96, Gdti174, Gid96}
-use Rattle.rules.specs.Schemes.{Form, prefix, digits, integer, string, Body, _then_, _zeros_, E, Parts, F, integers, schemes, about}
-use Rattle.rules.specs.Grammar.{Layout, part, last, laid, bodyLayout, layout, Fit, Fits, more, one, sized, spelled, written, Tag, start, label, textOf, TagText}
+use Rattle.rules.specs.declared.Body.{Body}
+use Rattle.rules.specs.declared.Body.the-variants.{Then, Zeros, E}
+use Rattle.rules.specs.declared.Parts.{Parts}
+use Rattle.rules.specs.declared.Parts.the-variants.{F, Integers}
+use Rattle.rules.specs.Schemes.{Form, company, digits, integer, string, schemes, about}
+use Rattle.rules.specs.Grammar.{Layout, part, end, laid, bodyLayout, layout, Fit, Fits, more, one, sized, spelled, written, Tag, start, label, textOf, TagText}
 use Rattle.rules.specs.TextNumbers.{after, Named, choose, named, partsIn, tagOfText}
 use Rattle.rules.specs.Conditions.{Rule, rule, Formed, TooLarge, NoFilter, NoPrefix, NoReference, OfLast, OfText, textRules}
 use Rattle.rules.specs.Conditions.{Named as IsNamed}
@@ -25,17 +29,17 @@ use Rattle.rules.proofs.Reading.{partRules, parts-reads}
 
 -- What is right is given: the parts, if none but the last may hold a dot.
 abbrev Dotless : Form → Type 0
-Dotless prefix = Unit
+Dotless company = Unit
 Dotless (digits b n) = Unit
 Dotless (integer b) = Unit
 Dotless (string b) = ⊥
 
 abbrev Separable : Layout → Type 0
-Separable (part n f k) = Dotless f × ((p : List ℕ) → Separable (k p))
-Separable (last n f) = Unit
+Separable (part r f k) = Dotless f × ((p : List ℕ) → Separable (k p))
+Separable (end r f) = Unit
 
 clear : (f : Form) (p : List ℕ) → Dotless f → Fit f p → T (without dot (spelled f p))
-clear prefix p d h = no-dots p (h .symbols)
+clear company p d h = no-dots p (h .symbols)
 clear (digits b n) p d h = no-dots p (h .symbols)
 clear (integer b) p d h = no-dots p (h .symbols)
 clear (string b) p d h = absurd d
@@ -48,13 +52,13 @@ parts-of (more {f = f} {k = k} {p = p} {ps = ps} h i) s =
     rw (among-of dot u (spelled f p), upto-of dot u (spelled f p) c, behind-of dot u (spelled f p) c, formed-at f p (h .symbols) (h .shape), is-true (sized f p) (h .size), parts-of i (s .1 p))
 
 body-separable : (body : Body) (n : ℕ) → Separable (bodyLayout body n)
-body-separable (t then f) n = (tt, λ _. tt)
-body-separable (t zeros z) n = tt
+body-separable (Then t l) n = (tt, λ _. tt)
+body-separable (Zeros t z) n = tt
 body-separable E n = tt
 
 separable : (p : Parts) → Separable (laid p)
 separable (F body) = (tt, λ _. (tt, λ ds. body-separable body (length ds)))
-separable (integers a b c) = (tt, λ _. (tt, λ _. tt))
+separable (Integers a b c) = (tt, λ _. (tt, λ _. tt))
 
 -- The start.
 pub after-is : (s t : List ℕ) → Gives (λ u. t ≡ s ++ u) (after s t)

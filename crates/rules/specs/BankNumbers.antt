@@ -9,9 +9,9 @@ use Rattle.numeral.specs.Numeral.{value, numeral, spread, gather, shortest}
 use Rattle.rules.specs.Answers.{Answer, taken, _>>=_, _>>_, demand, given, numberOf}
 use Rattle.rules.specs.Bytes.{all}
 use Rattle.rules.specs.declared.Scheme.{Scheme}
-use Rattle.rules.specs.Schemes.{Form, prefix, digits, integer, string, schemes, about, words, zeroBits, rowAt, prefixBits, prefixDigits}
+use Rattle.rules.specs.Schemes.{Form, company, digits, integer, string, schemes, about, words, zeroBits, rowAt, prefixBits, prefixDigits}
 use Rattle.rules.specs.Characters.{character}
-use Rattle.rules.specs.Grammar.{Layout, part, last, layout, Tag}
+use Rattle.rules.specs.Grammar.{Layout, part, end, layout, Tag}
 use Rattle.rules.specs.Coding.{at, wordCount, bankSize}
 
 -- a part, and the bits behind it
@@ -46,7 +46,7 @@ stringIn gs = do
 
 -- 16: the partition value; 17: the company prefix; 18: the reference of A to D
 abbrev pub fieldIn : Form → List ℕ → Answer Field
-fieldIn prefix l = do
+fieldIn company l = do
   let P = value 2 (take 3 l)
   demand (not (eqb P 7)) 16
   decimal 17 (prefixBits (rowAt P)) (prefixDigits (rowAt P)) (drop 3 l)
@@ -58,11 +58,11 @@ fieldIn (string b) l = do
 
 -- bits are taken in order
 abbrev pub fieldsIn : Layout → List ℕ → Answer (List (List ℕ))
-fieldsIn (part n f k) l = do
+fieldsIn (part r f k) l = do
   c ← fieldIn f l
   ps ← fieldsIn (k (c .symbols)) (c .rest)
   taken (c .symbols ∷ ps)
-fieldsIn (last n f) l = do
+fieldsIn (end r f) l = do
   c ← fieldIn f l
   taken (c .symbols ∷ [])
 
@@ -74,14 +74,26 @@ headed h (s ∷ ss) = let r = headed h ss in cond (eqb h (about s .header)) (som
 abbrev pub codeIn : List ℕ → List ℕ
 codeIn b = take (16 * wordCount b) (drop (0x20 - 0x10) (spread 2 8 b))
 
-unfoldable pub tagOfBank : List ℕ → Answer Tag
-tagOfBank b = do
+-- 9 and 10: the word count, if the words are there and are not none
+abbrev pub wordsIn : List ℕ → Answer ℕ
+wordsIn b = do
   let W = wordCount b
-  let code = codeIn b
   demand (leb 2 (length b) && leb (bankSize W) (length b)) 9
   demand (ltb 0 W) 10
+  taken W
+
+-- 11 and 12: the same, if the other control bits are 0
+abbrev pub controlIn : List ℕ → Answer ℕ
+controlIn b = do
+  W ← wordsIn b
   demand (eqb (at b 0x17 1) 0) 11
   demand (eqb (at b 0x15 2) 0 && eqb (at b 0x18 8) 0) 12
+  taken W
+
+unfoldable pub tagOfBank : List ℕ → Answer Tag
+tagOfBank b = do
+  let code = codeIn b
+  W ← controlIn b
   s ← given (headed (value 2 (take 8 code)) schemes) 13
   demand (eqb W (words s)) 14
   demand (allZero (drop (about s .bits - zeroBits (about s .parts)) code)) 15

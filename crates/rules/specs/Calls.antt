@@ -51,5 +51,5 @@ unfoldable pub rawLine : List ℕ → List ℕ → Call
 rawLine b out = call out (rawAnswer b out)
 
 -- what a call wrote
-abbrev pub line : Call → List ℕ
-line c = take (c .written) (c .output)
+abbrev pub wrote : Call → List ℕ
+wrote c = take (c .written) (c .output)

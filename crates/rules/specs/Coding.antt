@@ -5,8 +5,8 @@ use mathlib.Core.List.{List, [], _∷_, _++_}
 use lib.ListN.{length, take, drop, replicate}
 use Rattle.numeral.specs.Numeral.{value, numeral, spread, gather}
 use Rattle.rules.specs.declared.Scheme.{Scheme}
-use Rattle.rules.specs.Schemes.{Form, prefix, digits, integer, string, about, words, partition, rowOf, prefixBits}
-use Rattle.rules.specs.Grammar.{Layout, part, last, layout, Tag, Fits}
+use Rattle.rules.specs.Schemes.{Form, company, digits, integer, string, about, words, partition, rowOf, prefixBits}
+use Rattle.rules.specs.Grammar.{Layout, part, end, layout, Tag, Fits}
 
 abbrev pub binary : ℕ → ℕ → List ℕ
 binary n v = numeral 2 n v
@@ -16,16 +16,16 @@ abbrev pub filled : ℕ → List ℕ → List ℕ
 filled n l = l ++ replicate (n - length l) 0
 
 abbrev pub partBits : Form → List ℕ → List ℕ
-partBits prefix ds = binary 3 (partition (length ds)) ++ binary (prefixBits (rowOf (length ds))) (value 10 ds)
+partBits company ds = binary 3 (partition (length ds)) ++ binary (prefixBits (rowOf (length ds))) (value 10 ds)
 partBits (digits b n) ds = binary b (value 10 ds)
 partBits (integer b) ds = binary b (value 10 ds)
 partBits (string b) cs = filled b (spread 2 7 cs)
 
 abbrev pub coded : Layout → List (List ℕ) → List ℕ
-coded (part n f k) [] = []
-coded (part n f k) (p ∷ ps) = partBits f p ++ coded (k p) ps
-coded (last n f) [] = []
-coded (last n f) (p ∷ ps) = partBits f p
+coded (part r f k) [] = []
+coded (part r f k) (p ∷ ps) = partBits f p ++ coded (k p) ps
+coded (end r f) [] = []
+coded (end r f) (p ∷ ps) = partBits f p
 
 -- the header, the parts, and zeros to the end of the last word; table B's 24 zero bits are of those
 abbrev pub codeOf : Scheme → List (List ℕ) → List ℕ

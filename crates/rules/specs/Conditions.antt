@@ -8,7 +8,12 @@ use lib.ListN.{length}
 use Rattle.numeral.specs.Numeral.{value, Digits}
 use Rattle.rules.specs.Bytes.{all, among, upto, behind, dot, digitsText}
 use Rattle.rules.specs.declared.Scheme.{Scheme}
-use Rattle.rules.specs.Schemes.{Form, prefix, digits, integer, string, Body, _then_, _zeros_, E, Parts, F, integers, Row, Cell, cell, reference, referenceE, prefixBits, prefixDigits, rowAt, rowOf, about, words, zeroBits}
+use Rattle.rules.specs.declared.Last.the-variants.{Integer, String}
+use Rattle.rules.specs.declared.Body.{Body}
+use Rattle.rules.specs.declared.Body.the-variants.{Then, Zeros, E}
+use Rattle.rules.specs.declared.Parts.{Parts}
+use Rattle.rules.specs.declared.Parts.the-variants.{F, Integers}
+use Rattle.rules.specs.Schemes.{Form, company, digits, integer, string, lastForm, Row, Cell, cell, rowDigits, assetBits, prefixBits, prefixDigits, rowAt, rowOf, about, words, zeroBits}
 use Rattle.rules.specs.Characters.{character, stringText}
 use Rattle.rules.specs.Grammar.{start, label}
 use Rattle.rules.specs.Coding.{at, wordCount}
@@ -43,14 +48,14 @@ Spelled x cs = T (all character cs) × (x ≡ stringText cs)
 
 -- the text x has the form f, whatever its size; empty is no integer and no string
 abbrev pub Formed : Form → List ℕ → Type 0
-Formed prefix x = (ds : List ℕ) × Decimal x ds × (6 ≤ length ds) × (length ds ≤ 12)
+Formed company x = (ds : List ℕ) × Decimal x ds × (6 ≤ length ds) × (length ds ≤ 12)
 Formed (digits b n) x = (ds : List ℕ) × Decimal x ds × (length ds ≡ n)
 Formed (integer b) x = (ds : List ℕ) × Decimal x ds × Whole ds
 Formed (string b) x = (cs : List ℕ) × Spelled x cs × (0 < length cs)
 
 -- its value or its number of characters is too large
 abbrev pub TooLarge : Form → List ℕ → Type 0
-TooLarge prefix x = ⊥
+TooLarge company x = ⊥
 TooLarge (digits b n) x = ⊥
 TooLarge (integer b) x = (ds : List ℕ) × Decimal x ds × (2 ^ b ≤ value 10 ds)
 TooLarge (string b) x = (cs : List ℕ) × Spelled x cs × (b / 7 < length cs)
@@ -69,12 +74,12 @@ OfText t Q = (s : Scheme) × (u : List ℕ) × Named t s u × Q (about s .parts)
 -- 4: filter is not one digit 0 to 7 and a dot (never for gid-96)
 abbrev pub NoFilter : Parts → List ℕ → Type 0
 NoFilter (F body) u = ¬ ((d : ℕ) × (v : List ℕ) × (d < 8) × (u ≡ digitsText (d ∷ []) ++ dot ∷ v))
-NoFilter (integers a b c) u = ⊥
+NoFilter (Integers a b c) u = ⊥
 
 -- 5: the run up to the next dot is not 6 to 12 digits, or there is no dot; for gid-96, it is no integer below 2^28, or there is no dot
 abbrev pub NoPrefix : Parts → List ℕ → Type 0
-NoPrefix (F body) u = ¬ (Stands prefix (behind dot u))
-NoPrefix (integers a b c) u = ¬ (Stands (integer a) u)
+NoPrefix (F body) u = ¬ (Stands company (behind dot u))
+NoPrefix (Integers a b c) u = ¬ (Stands (integer a) u)
 
 -- the number of the company prefix's digits, which picks the row, and the text behind the prefix and its dot
 abbrev pub OfRow : List ℕ → (ℕ → List ℕ → Type 0) → Type 0
@@ -83,23 +88,23 @@ OfRow u Q = let v = behind dot u in Q (length (upto dot v)) (behind dot v)
 -- 6: reference (A to D) is not the row's digits followed by a dot, or by the end for table B;
 -- for gid-96, the run up to the next dot is no integer below 2^24, or there is no dot
 abbrev pub NoCell : Body → ℕ → List ℕ → Type 0
-NoCell (t then f) n w = ¬ (Stands (reference t (rowOf n)) w)
-NoCell (t zeros z) n w = ¬ (Formed (reference t (rowOf n)) w)
+NoCell (Then t l) n w = ¬ (Stands (rowDigits t (rowOf n)) w)
+NoCell (Zeros t z) n w = ¬ (Formed (rowDigits t (rowOf n)) w)
 NoCell E n w = ⊥
 
 abbrev pub NoReference : Parts → List ℕ → Type 0
 NoReference (F body) u = OfRow u (NoCell body)
-NoReference (integers a b c) u = ¬ (Stands (integer b) (behind dot u))
+NoReference (Integers a b c) u = ¬ (Stands (integer b) (behind dot u))
 
 -- the form of the last part, and the last part: the rest of the text; table B's reference is settled by 6 alone
 abbrev pub OfEnd : (Form → List ℕ → Type 0) → Body → ℕ → List ℕ → Type 0
-OfEnd Q (t then f) n w = Q f (behind dot w)
-OfEnd Q (t zeros z) n w = ⊥
-OfEnd Q E n w = Q (referenceE (rowOf n)) w
+OfEnd Q (Then t l) n w = Q (lastForm l) (behind dot w)
+OfEnd Q (Zeros t z) n w = ⊥
+OfEnd Q E n w = Q (integer (assetBits (rowOf n))) w
 
 abbrev pub OfLast : (Form → List ℕ → Type 0) → Parts → List ℕ → Type 0
 OfLast Q (F body) u = OfRow u (OfEnd Q body)
-OfLast Q (integers a b c) u = Q (integer c) (behind dot (behind dot u))
+OfLast Q (Integers a b c) u = Q (integer c) (behind dot (behind dot u))
 
 unfoldable pub textRules : List ℕ → List Rule
 textRules t =
@@ -134,22 +139,22 @@ OneAfter b n = (a : ℕ) × (0x20 + n ≤ a) × (a < 0x20 + 16 * wordCount b) ×
 -- 16: P is 7
 abbrev pub NoRow : List ℕ → Parts → Type 0
 NoRow b (F body) = partitionIn b ≡ 7
-NoRow b (integers m n k) = ⊥
+NoRow b (Integers m n k) = ⊥
 
 -- 17: prefix is 10^digits or more
 abbrev pub LargePrefix : List ℕ → Parts → Type 0
 LargePrefix b (F body) = 10 ^ prefixDigits (rowIn b) ≤ at b 0x2E (prefixBits (rowIn b))
-LargePrefix b (integers m n k) = ⊥
+LargePrefix b (Integers m n k) = ⊥
 
 -- 18: reference of A to D is 10^digits or more; with 0 digits, not 0
 abbrev pub LargeCell : List ℕ → Cell → Type 0
 LargeCell b c = 10 ^ c .1 ≤ at b (0x2E + prefixBits (rowIn b)) (c .0)
 
 abbrev pub LargeReference : List ℕ → Parts → Type 0
-LargeReference b (F (t then f)) = LargeCell b (cell t (rowIn b))
-LargeReference b (F (t zeros z)) = LargeCell b (cell t (rowIn b))
+LargeReference b (F (Then t l)) = LargeCell b (cell t (rowIn b))
+LargeReference b (F (Zeros t z)) = LargeCell b (cell t (rowIn b))
 LargeReference b (F E) = ⊥
-LargeReference b (integers m n k) = ⊥
+LargeReference b (Integers m n k) = ⊥
 
 -- 19: string begins with a zero, has a nonzero group after a zero, or a group outside table A-1
 abbrev pub WrongGroups : ℕ → (ℕ → ℕ) → Type 0
@@ -158,18 +163,13 @@ WrongGroups k group =
     ⊎ ((i : ℕ) × (j : ℕ) × (i < j) × (j < k) × (group i ≡ 0) × (¬ (group j ≡ 0)))
     ⊎ ((i : ℕ) × (i < k) × (¬ (group i ≡ 0)) × (¬ T (character (group i))))
 
--- a part that ends at code bit n; its first group stands at the part's first bit
-abbrev pub WrongString : List ℕ → ℕ → Form → Type 0
-WrongString b n prefix = ⊥
-WrongString b n (digits m k) = ⊥
-WrongString b n (integer m) = ⊥
-WrongString b n (string m) = WrongGroups (m / 7) λ i. at b (0x20 + (n - m) + 7 * i) 7
-
+-- a string that ends at code bit n; its first group stands at its first bit
 abbrev pub WrongLast : List ℕ → ℕ → Parts → Type 0
-WrongLast b n (F (t then f)) = WrongString b n f
-WrongLast b n (F (t zeros z)) = ⊥
+WrongLast b n (F (Then t (Integer m))) = ⊥
+WrongLast b n (F (Then t (String m))) = WrongGroups (m / 7) λ i. at b (0x20 + (n - m) + 7 * i) 7
+WrongLast b n (F (Zeros t z)) = ⊥
 WrongLast b n (F E) = ⊥
-WrongLast b n (integers m k l) = ⊥
+WrongLast b n (Integers m k l) = ⊥
 
 -- 9: fewer than 2 bytes, or fewer than 2 + 2W; 10: W is 0
 unfoldable pub rawRules : List ℕ → List Rule

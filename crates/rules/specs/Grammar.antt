@@ -8,25 +8,36 @@ use lib.ListN.{length}
 use Rattle.numeral.specs.Numeral.{value}
 use Rattle.rules.specs.Bytes.{bytes, all, dot, colon, digitsText}
 use Rattle.rules.specs.declared.Scheme.{Scheme}
-use Rattle.rules.specs.Schemes.{Form, prefix, digits, integer, string, reference, referenceE, rowOf, Body, _then_, _zeros_, E, Parts, F, integers, about}
+use Rattle.rules.specs.declared.Body.{Body}
+use Rattle.rules.specs.declared.Body.the-variants.{Then, Zeros, E}
+use Rattle.rules.specs.declared.Parts.{Parts}
+use Rattle.rules.specs.declared.Parts.the-variants.{F, Integers}
+use Rattle.rules.specs.Schemes.{Form, company, digits, integer, string, rowDigits, assetBits, rowOf, lastForm, about}
 use Rattle.rules.specs.Characters.{character, stringText}
 
--- The parts in their order, each with the number of a text that is refused at it.
+-- What a part is in its tag. The first two integers of gid-96 stand where others have the prefix and the reference.
+pub data Role : Type 0 where
+  filter : Role
+  prefix : Role
+  reference : Role
+  last : Role
+
+-- The parts in their order, each by its role and its form.
 -- What follows a part may depend on its digits: those of the company prefix pick the row.
 pub data Layout : Type 0 where
   -- a part with a dot behind it, and what follows
-  part : ℕ → Form → (List ℕ → Layout) → Layout
-  -- the last part: the rest of the text
-  last : ℕ → Form → Layout
+  part : Role → Form → (List ℕ → Layout) → Layout
+  -- the part that ends the text
+  end : Role → Form → Layout
 
 abbrev pub bodyLayout : Body → ℕ → Layout
-bodyLayout (t then f) n = part 6 (reference t (rowOf n)) λ _. last 7 f
-bodyLayout (t zeros z) n = last 6 (reference t (rowOf n))
-bodyLayout E n = last 7 (referenceE (rowOf n))
+bodyLayout (Then t l) n = part reference (rowDigits t (rowOf n)) λ _. end last (lastForm l)
+bodyLayout (Zeros t z) n = end reference (rowDigits t (rowOf n))
+bodyLayout E n = end last (integer (assetBits (rowOf n)))
 
 abbrev pub laid : Parts → Layout
-laid (F body) = part 4 (integer 3) λ _. part 5 prefix λ ds. bodyLayout body (length ds)
-laid (integers a b c) = part 5 (integer a) λ _. part 6 (integer b) λ _. last 7 (integer c)
+laid (F body) = part filter (integer 3) λ _. part prefix company λ ds. bodyLayout body (length ds)
+laid (Integers a b c) = part prefix (integer a) λ _. part reference (integer b) λ _. end last (integer c)
 
 abbrev pub layout : Scheme → Layout
 layout s = laid (about s .parts)
@@ -36,7 +47,7 @@ abbrev pub digit : ℕ → Bool
 digit d = ltb d 10
 
 abbrev pub symbol : Form → ℕ → Bool
-symbol prefix = digit
+symbol company = digit
 symbol (digits b n) = digit
 symbol (integer b) = digit
 symbol (string b) = character
@@ -48,13 +59,13 @@ plainNumber (d ∷ []) = true
 plainNumber (d ∷ e ∷ ds) = ltb 0 d
 
 abbrev pub shaped : Form → List ℕ → Bool
-shaped prefix ds = leb 6 (length ds) && leb (length ds) 12
+shaped company ds = leb 6 (length ds) && leb (length ds) 12
 shaped (digits b n) ds = eqb (length ds) n
 shaped (integer b) ds = plainNumber ds
 shaped (string b) cs = ltb 0 (length cs)
 
 abbrev pub sized : Form → List ℕ → Bool
-sized prefix ds = true
+sized company ds = true
 sized (digits b n) ds = true
 sized (integer b) ds = ltb (value 10 ds) (2 ^ b)
 sized (string b) cs = leb (length cs) (b / 7)
@@ -66,8 +77,8 @@ pub record Fit (f : Form) (p : List ℕ) : Type 0 where
 
 -- the parts fit the layout, one by one
 pub data Fits : Layout → List (List ℕ) → Type 0 where
-  more : {n : ℕ} {f : Form} {k : List ℕ → Layout} {p : List ℕ} {ps : List (List ℕ)} → Fit f p → Fits (k p) ps → Fits (part n f k) (p ∷ ps)
-  one : {n : ℕ} {f : Form} {p : List ℕ} → Fit f p → Fits (last n f) (p ∷ [])
+  more : {r : Role} {f : Form} {k : List ℕ → Layout} {p : List ℕ} {ps : List (List ℕ)} → Fit f p → Fits (k p) ps → Fits (part r f k) (p ∷ ps)
+  one : {r : Role} {f : Form} {p : List ℕ} → Fit f p → Fits (end r f) (p ∷ [])
 
 pub record Tag : Type 0 where
   pub scheme : Scheme
@@ -75,17 +86,17 @@ pub record Tag : Type 0 where
 
 -- How it is written.
 abbrev pub spelled : Form → List ℕ → List ℕ
-spelled prefix = digitsText
+spelled company = digitsText
 spelled (digits b n) = digitsText
 spelled (integer b) = digitsText
 spelled (string b) = stringText
 
 -- the parts, joined by dots
 abbrev pub written : Layout → List (List ℕ) → List ℕ
-written (part n f k) [] = []
-written (part n f k) (p ∷ ps) = spelled f p ++ dot ∷ written (k p) ps
-written (last n f) [] = []
-written (last n f) (p ∷ ps) = spelled f p
+written (part r f k) [] = []
+written (part r f k) (p ∷ ps) = spelled f p ++ dot ∷ written (k p) ps
+written (end r f) [] = []
+written (end r f) (p ∷ ps) = spelled f p
 
 unfoldable pub start : List ℕ
 start = bytes "urn:epc:tag:"

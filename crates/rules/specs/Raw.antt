@@ -1,13 +1,14 @@
 -- The raw line of a bank (document 01, "The bank": Raw line).
 use Prim.Native.Nat.{ℕ, _*_}
 use mathlib.Core.List.{List, [], _∷_, _++_}
-use mathlib.Core.Bool.{Bool, true, false, _&&_}
-use lib.Dec.{leb, ltb, eqb}
-use lib.ListN.{length, drop}
+use mathlib.Core.Bool.{Bool, true, false}
+use lib.Dec.{eqb}
+use lib.ListN.{drop}
 use Rattle.numeral.specs.Numeral.{shortest}
-use Rattle.rules.specs.Answers.{Answer, taken, _>>=_, _>>_, demand}
+use Rattle.rules.specs.Answers.{Answer, taken, _>>=_}
 use Rattle.rules.specs.Bytes.{bytes, digitsText, hexText}
-use Rattle.rules.specs.Coding.{at, wordCount, bankSize, within}
+use Rattle.rules.specs.Coding.{at, wordCount, within}
+use Rattle.rules.specs.BankNumbers.{wordsIn}
 
 -- `.x` and the AFI, if the toggle is 1
 abbrev pub afiText : Bool → ℕ → List ℕ
@@ -25,6 +26,5 @@ rawText b =
 -- the raw line gives only 1, 9 and 10
 unfoldable pub rawOfBank : List ℕ → Answer (List ℕ)
 rawOfBank b = do
-  demand (leb 2 (length b) && leb (bankSize (wordCount b)) (length b)) 9
-  demand (ltb 0 (wordCount b)) 10
+  W ← wordsIn b
   taken (rawText b)

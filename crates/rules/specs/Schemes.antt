@@ -1,6 +1,6 @@
 -- The schemes' table and the partition tables (document 01, "The thirteen schemes").
 use Prim.Native.Nat.{ℕ, zero, suc, _+_, _/_}
-use Prim.Native.String.{String}
+use Prim.Native.String.{String as Quoted}
 use mathlib.Core.Bool.{true, false}
 use mathlib.Core.List.{List, [], _∷_}
 use lib.Dec.{eqb}
@@ -9,11 +9,17 @@ use Rattle.rules.specs.declared.Scheme.{Scheme}
 use Rattle.rules.specs.declared.Scheme.the-variants.{Sgtin96, Sgtin198, Sscc96, Sgln96, Sgln195, Grai96, Grai170, Giai96, Gsrn96, Gsrnp96, Gdti96, Gdti174, Gid96}
 use Rattle.rules.specs.declared.Table.{Table}
 use Rattle.rules.specs.declared.Table.the-variants.{A, B, C, D}
+use Rattle.rules.specs.declared.Last.{Last}
+use Rattle.rules.specs.declared.Last.the-variants.{Integer, String}
+use Rattle.rules.specs.declared.Body.{Body}
+use Rattle.rules.specs.declared.Body.the-variants.{Then, Zeros, E}
+use Rattle.rules.specs.declared.Parts.{Parts}
+use Rattle.rules.specs.declared.Parts.the-variants.{F, Integers}
 
 -- How a part is written, and in how many bits.
 pub data Form : Type 0 where
-  -- the company prefix, behind its partition value
-  prefix : Form
+  -- the company prefix: 6 to 12 digits, behind the partition value that their number picks
+  company : Form
   -- `digits b n`: b bits, exactly n digits
   digits : ℕ → ℕ → Form
   -- `integer b`: b bits, no leading zero
@@ -53,16 +59,16 @@ cell B (row p a b c d e) = b
 cell C (row p a b c d e) = c
 cell D (row p a b c d e) = d
 
-abbrev pub reference : Table → Row → Form
-reference t r = digits (cell t r .0) (cell t r .1)
+abbrev pub rowDigits : Table → Row → Form
+rowDigits t r = digits (cell t r .0) (cell t r .1)
 
--- the reference of E
-abbrev pub referenceE : Row → Form
-referenceE (row p a b c d e) = integer e
+-- the bits of E's reference, an integer
+abbrev pub assetBits : Row → ℕ
+assetBits (row p a b c d e) = e
 
 -- the row of a partition value; past the last there is none
 abbrev pub noRow : Row
-noRow = let none : Cell = (zero, zero) in row none none none none none zero
+noRow = let blank : Cell = (zero, zero) in row blank blank blank blank blank zero
 
 abbrev pub rowAt : ℕ → Row
 rowAt P = getD rows P noRow
@@ -78,43 +84,35 @@ partition n = place n rows
 abbrev pub rowOf : ℕ → Row
 rowOf n = rowAt (partition n)
 
--- A partition table with what follows its reference: a part, or zero bits. Table E's reference is the end.
-pub data Body : Type 0 where
-  _then_ : Table → Form → Body
-  _zeros_ : Table → ℕ → Body
-  E : Body
+-- the last part behind a reference
+abbrev pub lastForm : Last → Form
+lastForm (Integer b) = integer b
+lastForm (String b) = string b
 
--- The parts after the header: the filter and a partition table, or integers with no filter.
-pub data Parts : Type 0 where
-  F : Body → Parts
-  integers : (a b c : ℕ) → Parts
-
-infix 40 _then_
-infix 40 _zeros_
--- a line of the schemes' table
-pub record Line : Type 0 where
-  pub name : String
+-- the columns of a scheme in the table of schemes
+pub record Outline : Type 0 where
+  pub name : Quoted
   pub header : ℕ
   pub bits : ℕ
   pub parts : Parts
 
-abbrev pub line : String → ℕ → ℕ → Parts → Line
-line n h b p = record { name = n; header = h; bits = b; parts = p }
+abbrev pub outline : Quoted → ℕ → ℕ → Parts → Outline
+outline n h b p = record { name = n; header = h; bits = b; parts = p }
 
-abbrev pub about : Scheme → Line
-about Sgtin96 = line "sgtin-96" 0x30 96 (F (A then integer 38))
-about Sgtin198 = line "sgtin-198" 0x36 198 (F (A then string 140))
-about Sscc96 = line "sscc-96" 0x31 96 (F (B zeros 24))
-about Sgln96 = line "sgln-96" 0x32 96 (F (D then integer 41))
-about Sgln195 = line "sgln-195" 0x39 195 (F (D then string 140))
-about Grai96 = line "grai-96" 0x33 96 (F (C then integer 38))
-about Grai170 = line "grai-170" 0x37 170 (F (C then string 112))
-about Giai96 = line "giai-96" 0x34 96 (F E)
-about Gsrn96 = line "gsrn-96" 0x2D 96 (F (B zeros 24))
-about Gsrnp96 = line "gsrnp-96" 0x2E 96 (F (B zeros 24))
-about Gdti96 = line "gdti-96" 0x2C 96 (F (D then integer 41))
-about Gdti174 = line "gdti-174" 0x3E 174 (F (D then string 119))
-about Gid96 = line "gid-96" 0x35 96 (integers 28 24 36)
+abbrev pub about : Scheme → Outline
+about Sgtin96 = outline "sgtin-96" 0x30 96 (F (Then A (Integer 38)))
+about Sgtin198 = outline "sgtin-198" 0x36 198 (F (Then A (String 140)))
+about Sscc96 = outline "sscc-96" 0x31 96 (F (Zeros B 24))
+about Sgln96 = outline "sgln-96" 0x32 96 (F (Then D (Integer 41)))
+about Sgln195 = outline "sgln-195" 0x39 195 (F (Then D (String 140)))
+about Grai96 = outline "grai-96" 0x33 96 (F (Then C (Integer 38)))
+about Grai170 = outline "grai-170" 0x37 170 (F (Then C (String 112)))
+about Giai96 = outline "giai-96" 0x34 96 (F E)
+about Gsrn96 = outline "gsrn-96" 0x2D 96 (F (Zeros B 24))
+about Gsrnp96 = outline "gsrnp-96" 0x2E 96 (F (Zeros B 24))
+about Gdti96 = outline "gdti-96" 0x2C 96 (F (Then D (Integer 41)))
+about Gdti174 = outline "gdti-174" 0x3E 174 (F (Then D (String 119)))
+about Gid96 = outline "gid-96" 0x35 96 (Integers 28 24 36)
 
 unfoldable pub schemes : List Scheme
 schemes =
@@ -130,7 +128,7 @@ words s = wordsFor (about s .bits)
 
 -- the zero bits at the end of the code
 abbrev pub zeroBits : Parts → ℕ
-zeroBits (F (t then f)) = 0
-zeroBits (F (t zeros z)) = z
+zeroBits (F (Then t l)) = 0
+zeroBits (F (Zeros t z)) = z
 zeroBits (F E) = 0
-zeroBits (integers a b c) = 0
+zeroBits (Integers a b c) = 0

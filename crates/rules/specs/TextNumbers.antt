@@ -8,9 +8,9 @@ use lib.Dec.{leb, eqb}
 use Rattle.rules.specs.Answers.{Answer, taken, _>>=_, _>>_, demand, given, numberOf}
 use Rattle.rules.specs.Bytes.{among, upto, behind, dot, percent, hexDigit}
 use Rattle.rules.specs.declared.Scheme.{Scheme}
-use Rattle.rules.specs.Schemes.{Form, prefix, digits, integer, string, schemes}
+use Rattle.rules.specs.Schemes.{Form, company, digits, integer, string, schemes}
 use Rattle.rules.specs.Characters.{escaped, plain}
-use Rattle.rules.specs.Grammar.{Layout, part, last, layout, shaped, sized, Tag, start, label}
+use Rattle.rules.specs.Grammar.{Role, filter, prefix, reference, last, Layout, part, end, layout, shaped, sized, Tag, start, label}
 
 -- the text behind s, if t begins with s
 abbrev pub after : List ℕ → List ℕ → Option (List ℕ)
@@ -62,7 +62,7 @@ charactersIn (c ∷ h ∷ l ∷ t) =
     cond (eqb c percent) e p
 
 abbrev pub symbolsIn : Form → List ℕ → Option (List ℕ)
-symbolsIn prefix = digitsIn
+symbolsIn company = digitsIn
 symbolsIn (digits b n) = digitsIn
 symbolsIn (integer b) = digitsIn
 symbolsIn (string b) = charactersIn
@@ -75,7 +75,14 @@ kept test (some p) = cond (test p) (some p) none
 abbrev pub formed : Form → List ℕ → Option (List ℕ)
 formed f t = kept (shaped f) (symbolsIn f t)
 
--- 4 to 6: a part, up to the next dot
+-- the number of a text that is refused at a part
+abbrev pub numberAt : Role → ℕ
+numberAt filter = 4
+numberAt prefix = 5
+numberAt reference = 6
+numberAt last = 7
+
+-- a part up to the next dot: n for its form and for its size
 abbrev pub partIn : ℕ → Form → List ℕ → Answer (List ℕ)
 partIn n f t = do
   demand (among dot t) n
@@ -83,7 +90,7 @@ partIn n f t = do
   demand (sized f p) n
   taken p
 
--- 7 and 8: the last part
+-- the part that ends the text: n for its form, 8 for its size
 abbrev pub lastIn : ℕ → Form → List ℕ → Answer (List ℕ)
 lastIn n f t = do
   p ← given (formed f t) n
@@ -92,12 +99,12 @@ lastIn n f t = do
 
 -- the parts from left to right
 abbrev pub partsIn : Layout → List ℕ → Answer (List (List ℕ))
-partsIn (part n f k) t = do
-  p ← partIn n f t
+partsIn (part r f k) t = do
+  p ← partIn (numberAt r) f t
   ps ← partsIn (k p) (behind dot t)
   taken (p ∷ ps)
-partsIn (last n f) t = do
-  p ← lastIn n f t
+partsIn (end r f) t = do
+  p ← lastIn (numberAt r) f t
   taken (p ∷ [])
 
 -- 2: the start; 3: a listed name and a colon; then the parts

@@ -25,3 +25,23 @@ pub enum Table {
     C,
     D,
 }
+
+// What follows the reference of one of these tables: an integer or a string of so many bits.
+pub enum Last {
+    Integer(usize),
+    String(usize),
+}
+
+// A partition table and what follows its reference: the last part, or so many zero bits. The reference of table E is itself the last
+// part.
+pub enum Body {
+    Then(Table, Last),
+    Zeros(Table, usize),
+    E,
+}
+
+// The parts after the header: F, the filter, and a partition table with what follows it; or three integers of so many bits, and no filter.
+pub enum Parts {
+    F(Body),
+    Integers(usize, usize, usize),
+}

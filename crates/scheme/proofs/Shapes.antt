@@ -4,57 +4,61 @@ use mathlib.Core.Path.{_≡_, refl, ap, _∙_}
 use mathlib.Core.List.{List, [], _∷_}
 use lib.ListN.{length}
 use Rattle.rules.specs.declared.Table.{Table}
-use Rattle.rules.specs.Schemes.{Form, prefix, integer, reference, referenceE, rowOf, Body, F, integers, _then_, _zeros_, E}
-use Rattle.rules.specs.Grammar.{Layout, part, last, Fit, Fits, more, one, bodyLayout, laid}
+use Rattle.rules.specs.declared.Last.{Last}
+use Rattle.rules.specs.declared.Body.{Body}
+use Rattle.rules.specs.declared.Body.the-variants.{Then, Zeros, E}
+use Rattle.rules.specs.declared.Parts.the-variants.{F, Integers}
+use Rattle.rules.specs.Schemes.{Form, company, integer, rowDigits, assetBits, lastForm, rowOf}
+use Rattle.rules.specs.Grammar.{Role, Layout, part, end, Fit, Fits, more, one, bodyLayout, laid}
 
 -- the first part of a layout, and the rest; and the last
 abbrev First : Form → (List ℕ → Layout) → List (List ℕ) → Type 0
 First f k ps = (p : List ℕ) × (qs : List (List ℕ)) × (ps ≡ p ∷ qs) × Fit f p × Fits (k p) qs
 
-first-of : {n : ℕ} {f : Form} {k : List ℕ → Layout} {ps : List (List ℕ)} → Fits (part n f k) ps → First f k ps
+first-of : {r : Role} {f : Form} {k : List ℕ → Layout} {ps : List (List ℕ)} → Fits (part r f k) ps → First f k ps
 first-of (more {p = p} {ps = qs} h i) = (p, qs, refl, h, i)
 
-abbrev Last : Form → List (List ℕ) → Type 0
-Last f ps = (p : List ℕ) × (ps ≡ p ∷ []) × Fit f p
+abbrev Only : Form → List (List ℕ) → Type 0
+Only f ps = (p : List ℕ) × (ps ≡ p ∷ []) × Fit f p
 
-last-of : {n : ℕ} {f : Form} {ps : List (List ℕ)} → Fits (last n f) ps → Last f ps
-last-of (one {p = p} h) = (p, refl, h)
+only-of : {r : Role} {f : Form} {ps : List (List ℕ)} → Fits (end r f) ps → Only f ps
+only-of (one {p = p} h) = (p, refl, h)
 
 -- a filter, a company prefix, and what its digits lead to
 pub record Partitioned (body : Body) (ps : List (List ℕ)) : Type 0 where
   pub filter : List ℕ
-  pub company : List ℕ
+  pub prefix : List ℕ
   pub rest : List (List ℕ)
-  pub parts : ps ≡ filter ∷ company ∷ rest
+  pub parts : ps ≡ filter ∷ prefix ∷ rest
   pub filter-fits : Fit (integer 3) filter
-  pub company-fits : Fit prefix company
-  pub rest-fits : Fits (bodyLayout body (length company)) rest
+  pub prefix-fits : Fit company prefix
+  pub rest-fits : Fits (bodyLayout body (length prefix)) rest
 
 pub partitioned : (body : Body) {ps : List (List ℕ)} → Fits (laid (F body)) ps → Partitioned body ps
 partitioned body h =
     let (p, qs, e, i, j) = first-of h in
     let (q, rs, f, k, l) = first-of j in
-    record { filter = p; company = q; rest = rs; parts = e ∙ ap (p ∷_) f; filter-fits = i; company-fits = k; rest-fits = l }
+    record { filter = p; prefix = q; rest = rs; parts = e ∙ ap (p ∷_) f; filter-fits = i; prefix-fits = k; rest-fits = l }
 
 -- what follows a company prefix of n digits: a reference of A to D and a last part; a reference of A to D; a reference of E
-pub reference-and-last : (t : Table) (f : Form) (n : ℕ) {ps : List (List ℕ)} → Fits (bodyLayout (t then f) n) ps
-    → (r : List ℕ) × (x : List ℕ) × (ps ≡ r ∷ x ∷ []) × Fit (reference t (rowOf n)) r × Fit f x
-reference-and-last t f n h =
+pub reference-and-last : (t : Table) (l : Last) (n : ℕ) {ps : List (List ℕ)} → Fits (bodyLayout (Then t l) n) ps
+    → (r : List ℕ) × (x : List ℕ) × (ps ≡ r ∷ x ∷ []) × Fit (rowDigits t (rowOf n)) r × Fit (lastForm l) x
+reference-and-last t l n h =
     let (r, qs, e, i, j) = first-of h in
-    let (x, g, k) = last-of j in
+    let (x, g, k) = only-of j in
     (r, x, e ∙ ap (r ∷_) g, i, k)
 
-pub reference-alone : (t : Table) (z n : ℕ) {ps : List (List ℕ)} → Fits (bodyLayout (t zeros z) n) ps → (r : List ℕ) × (ps ≡ r ∷ []) × Fit (reference t (rowOf n)) r
-reference-alone t z n h = last-of h
+pub reference-alone : (t : Table) (z n : ℕ) {ps : List (List ℕ)} → Fits (bodyLayout (Zeros t z) n) ps → (r : List ℕ) × (ps ≡ r ∷ []) × Fit (rowDigits t (rowOf n)) r
+reference-alone t z n h = only-of h
 
-pub asset-alone : (n : ℕ) {ps : List (List ℕ)} → Fits (bodyLayout E n) ps → (r : List ℕ) × (ps ≡ r ∷ []) × Fit (referenceE (rowOf n)) r
-asset-alone n h = last-of h
+pub asset-alone : (n : ℕ) {ps : List (List ℕ)} → Fits (bodyLayout E n) ps → (r : List ℕ) × (ps ≡ r ∷ []) × Fit (integer (assetBits (rowOf n))) r
+asset-alone n h = only-of h
 
 -- gid-96's three integers
-pub general : (a b c : ℕ) {ps : List (List ℕ)} → Fits (laid (integers a b c)) ps
+pub general : (a b c : ℕ) {ps : List (List ℕ)} → Fits (laid (Integers a b c)) ps
     → (p : List ℕ) × (q : List ℕ) × (r : List ℕ) × (ps ≡ p ∷ q ∷ r ∷ []) × Fit (integer a) p × Fit (integer b) q × Fit (integer c) r
 general a b c h =
     let (p, qs, e, i, j) = first-of h in
     let (q, rs, f, k, l) = first-of j in
-    let (r, g, m) = last-of l in
+    let (r, g, m) = only-of l in
     (p, q, r, e ∙ ap (p ∷_) (f ∙ ap (q ∷_) g), i, k, m)

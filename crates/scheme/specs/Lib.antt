@@ -1,5 +1,5 @@
 -- What the schemes' code is measured by.
 pub mod Counts
-pub mod Lines
+pub mod Outlines
 pub mod Records
 pub mod Rows

@@ -4,8 +4,13 @@ use mathlib.Core.Path.{_≡_}
 use mathlib.Core.List.{List, [], _++_}
 use lib.ListN.{length, getD, take, drop, replicate}
 use Rattle.numeral.specs.Numeral.{value}
-use Rattle.rules.specs.Schemes.{Form, prefix, digits, integer, string, _then_, _zeros_, E, Parts, F, integers, about}
 use Rattle.rules.specs.declared.Scheme.the-variants.{Sgtin96}
+use Rattle.rules.specs.declared.Last.{Last}
+use Rattle.rules.specs.declared.Last.the-variants.{Integer, String}
+use Rattle.rules.specs.declared.Body.the-variants.{Then, Zeros, E}
+use Rattle.rules.specs.declared.Parts.{Parts}
+use Rattle.rules.specs.declared.Parts.the-variants.{F, Integers}
+use Rattle.rules.specs.Schemes.{about}
 use Rattle.rules.specs.Answers.{Answer, refused, taken}
 use Rattle.rules.specs.Grammar.{Tag, Fits, layout}
 use Rattle.scheme.specs.declared.record.Record.{Record}
@@ -20,47 +25,43 @@ valueAt ps i = value 10 (partAt ps i)
 
 abbrev pub filterOf : Parts → List (List ℕ) → ℕ
 filterOf (F body) ps = valueAt ps 0
-filterOf (integers a b c) ps = 0
+filterOf (Integers a b c) ps = 0
 
 abbrev pub prefixOf : Parts → List (List ℕ) → ℕ
 prefixOf (F body) ps = valueAt ps 1
-prefixOf (integers a b c) ps = valueAt ps 0
+prefixOf (Integers a b c) ps = valueAt ps 0
 
 abbrev pub digitsOf : Parts → List (List ℕ) → ℕ
 digitsOf (F body) ps = length (partAt ps 1)
-digitsOf (integers a b c) ps = 0
+digitsOf (Integers a b c) ps = 0
 
 abbrev pub referenceOf : Parts → List (List ℕ) → ℕ
-referenceOf (F (t then f)) ps = valueAt ps 2
-referenceOf (F (t zeros z)) ps = valueAt ps 2
+referenceOf (F (Then t l)) ps = valueAt ps 2
+referenceOf (F (Zeros t z)) ps = valueAt ps 2
 referenceOf (F E) ps = 0
-referenceOf (integers a b c) ps = valueAt ps 1
+referenceOf (Integers a b c) ps = valueAt ps 1
 
 -- a last part that is an integer
-abbrev pub lastNumber : Form → List ℕ → ℕ
-lastNumber prefix p = 0
-lastNumber (digits b n) p = 0
-lastNumber (integer b) p = value 10 p
-lastNumber (string b) p = 0
+abbrev pub lastNumber : Last → List ℕ → ℕ
+lastNumber (Integer b) p = value 10 p
+lastNumber (String b) p = 0
 
 abbrev pub serialOf : Parts → List (List ℕ) → ℕ
-serialOf (F (t then f)) ps = lastNumber f (partAt ps 3)
-serialOf (F (t zeros z)) ps = 0
+serialOf (F (Then t l)) ps = lastNumber l (partAt ps 3)
+serialOf (F (Zeros t z)) ps = 0
 serialOf (F E) ps = valueAt ps 2
-serialOf (integers a b c) ps = valueAt ps 2
+serialOf (Integers a b c) ps = valueAt ps 2
 
 -- a last part that is a string
-abbrev pub lastCharacters : Form → List ℕ → List ℕ
-lastCharacters prefix p = []
-lastCharacters (digits b n) p = []
-lastCharacters (integer b) p = []
-lastCharacters (string b) p = p
+abbrev pub lastCharacters : Last → List ℕ → List ℕ
+lastCharacters (Integer b) p = []
+lastCharacters (String b) p = p
 
 abbrev pub charactersOf : Parts → List (List ℕ) → List ℕ
-charactersOf (F (t then f)) ps = lastCharacters f (partAt ps 3)
-charactersOf (F (t zeros z)) ps = []
+charactersOf (F (Then t l)) ps = lastCharacters l (partAt ps 3)
+charactersOf (F (Zeros t z)) ps = []
 charactersOf (F E) ps = []
-charactersOf (integers a b c) ps = []
+charactersOf (Integers a b c) ps = []
 
 -- twenty places, zeros behind the characters
 abbrev pub padded : List ℕ → List ℕ

@@ -1,7 +1,6 @@
 -- The cells of a row as the code holds them.
-use Prim.Native.Nat.{ℕ}
 use Rattle.rules.specs.declared.Table.{Table}
-use Rattle.rules.specs.Schemes.{Row, row, cell, prefixBits, prefixDigits}
+use Rattle.rules.specs.Schemes.{Row, cell, prefixBits, prefixDigits}
 use Rattle.scheme.specs.declared.rows.Cell.{Cell}
 
 abbrev pub prefixOf : Row → Cell
@@ -9,6 +8,3 @@ prefixOf r = record { bits = prefixBits r; digits = prefixDigits r }
 
 abbrev pub referenceOf : Table → Row → Cell
 referenceOf t r = record { bits = cell t r .0; digits = cell t r .1 }
-
-abbrev pub assetOf : Row → ℕ
-assetOf (row p a b c d e) = e

@@ -2,10 +2,10 @@
 use rules::Table;
 ghost use mathlib.Core.Path.{_≡_};
 ghost use Prim.Native.Nat.{_≤_, _<_};
-ghost use Rattle.rules.specs.Schemes.{partition, rowAt};
-ghost use Rattle.scheme.specs.Rows.{prefixOf, referenceOf, assetOf};
+ghost use Rattle.rules.specs.Schemes.{partition, rowAt, assetBits};
+ghost use Rattle.scheme.specs.Rows.{prefixOf, referenceOf};
 
-// P = 0 to 6, of which each is a column here.
+// The columns of the partition tables, indexed by P, 0 to 6.
 const PREFIX_BITS: [usize; 7] = [40, 37, 34, 30, 27, 24, 20];
 
 const PREFIX_DIGITS: [usize; 7] = [12, 11, 10, 9, 8, 7, 6];
@@ -81,7 +81,7 @@ pub fn reference(t: Table, p: usize) -> Cell
 // The bits of a row's reference in table E.
 pub fn asset(p: usize) -> usize
     requires { ⌜ p < 7 ⌝ }
-    ensures { λ r. ⌜ r ≡ assetOf (rowAt p) ⌝ }
+    ensures { λ r. ⌜ r ≡ assetBits (rowAt p) ⌝ }
 {
     E_BITS[p]
 }

@@ -20,9 +20,9 @@ use Rattle.rules.specs.TextNumbers.{isDigit, digitsIn, kept, lastIn}
 use Rattle.digits.specs.Digits.{leadingDigits}
 use Rattle.digits.proofs.Runs.{leading, run-most, run-within, run-whole, run-long, run-breaks, digits-none, drop-next}
 use Rattle.digits.proofs.Parts.{behind-run, rest-at, long-value}
-use Rattle.text.specs.Parts.{formOf, lastOf, longerOf, sizedOf, shorterOf}
+use Rattle.text.specs.Parts.{formOf, endOf, longerOf, sizedOf, shorterOf}
 use Rattle.text.specs.declared.parts.Form.{Form}
-use Rattle.text.specs.declared.parts.Last.the-variants.{Is, Refused}
+use Rattle.text.specs.declared.parts.End.the-variants.{Is, Refused}
 use Rattle.text.specs.declared.parts.Form.the-variants.{Digits, Integer}
 use Rattle.text.proofs.Fitting.{zeroFirst, plainly-is}
 use Rattle.text.proofs.Standing.{symbols-digits, zero-of, first-byte}
@@ -40,17 +40,17 @@ module _ (f : Form) (u : List ℕ) (n : ℕ) where
 
 -- an integer by the numbers of its digits
 module _ (b : ℕ) (u ds : List ℕ) (read : digitsIn u ≡ some ds) where
-  integer-sized : shorterOf b (length ds) (zeroFirst ds) (value 10 ds) ≡ lastOf (lastIn 7 (integer b) u)
+  integer-sized : shorterOf b (length ds) (zeroFirst ds) (value 10 ds) ≡ endOf (lastIn 7 (integer b) u)
   integer-sized = rw (sym (plainly-is ds), read) (go (plainNumber ds) (ltb (value 10 ds) (2 ^ b)) refl refl)
     where
       go : (p z : Bool) → plainNumber ds ≡ p → ltb (value 10 ds) (2 ^ b) ≡ z
-          → cond p (sizedOf z (value 10 ds)) (Refused 7) ≡ lastOf (given (kept plainNumber (some ds)) 7 >>= λ q. demand (ltb (value 10 q) (2 ^ b)) 8 >> taken q)
+          → cond p (sizedOf z (value 10 ds)) (Refused 7) ≡ endOf (given (kept plainNumber (some ds)) 7 >>= λ q. demand (ltb (value 10 q) (2 ^ b)) 8 >> taken q)
       go true true e f = rw (e, f)
       go true false e f = rw (e, f)
       go false z e f = rw e
 
   -- more than nineteen digits: of a wrong form, or too large
-  integer-long : b ≤ 63 → 19 < length ds → longerOf true (zeroFirst ds) ≡ lastOf (lastIn 7 (integer b) u)
+  integer-long : b ≤ 63 → 19 < length ds → longerOf true (zeroFirst ds) ≡ endOf (lastIn 7 (integer b) u)
   integer-long few m = go (zeroFirst ds) refl ∙ integer-sized
     where
       go : (z : Bool) → zeroFirst ds ≡ z → longerOf true z ≡ shorterOf b (length ds) z (value 10 ds)
@@ -89,56 +89,56 @@ module _ (text : List ℕ) (at end v : ℕ) (place : end ≡ at + length (leadin
 
   -- a last part of exactly n digits
   module _ (n : ℕ) where
-    pub digits-behind : n ≤ 19 → end < length text → Refused 6 ≡ lastOf (lastIn 6 (digits 0 n) (drop at text))
+    pub digits-behind : n ≤ 19 → end < length text → Refused 6 ≡ endOf (lastIn 6 (digits 0 n) (drop at text))
     digits-behind few l = go (all isDigit (drop end text)) refl
       where
-        go : (t : Bool) → all isDigit (drop end text) ≡ t → Refused 6 ≡ lastOf (lastIn 6 (digits 0 n) (drop at text))
-        go false h = sym (ap lastOf (last-none (Digits n) (drop at text) 6 (not-digits h)))
+        go : (t : Bool) → all isDigit (drop end text) ≡ t → Refused 6 ≡ endOf (lastIn 6 (digits 0 n) (drop at text))
+        go false h = sym (ap endOf (last-none (Digits n) (drop at text) 6 (not-digits h)))
         go true h =
             let (es, q, k, m) = more-digits l h in
             let ds = leadingDigits 19 (drop at text) ++ es in
-            sym (ap lastOf (last-wrong (Digits n) (drop at text) 6 ds q (ne-eqb (length ds) n (λ e. omega (arith, length-append (leadingDigits 19 (drop at text)) es)))))
+            sym (ap endOf (last-wrong (Digits n) (drop at text) 6 ds q (ne-eqb (length ds) n (λ e. omega (arith, length-append (leadingDigits 19 (drop at text)) es)))))
 
-    pub digits-other : length text ≤ end → ¬ (end - at ≡ n) → Refused 6 ≡ lastOf (lastIn 6 (digits 0 n) (drop at text))
+    pub digits-other : length text ≤ end → ¬ (end - at ≡ n) → Refused 6 ≡ endOf (lastIn 6 (digits 0 n) (drop at text))
     digits-other l d =
         let D = leadingDigits 19 (drop at text) in
-        sym (ap lastOf (last-wrong (Digits n) (drop at text) 6 D (whole l) (ne-eqb (length D) n (λ e. d (omega arith)))))
+        sym (ap endOf (last-wrong (Digits n) (drop at text) 6 D (whole l) (ne-eqb (length D) n (λ e. d (omega arith)))))
 
-    pub digits-end : length text ≤ end → end - at ≡ n → Is v ≡ lastOf (lastIn 6 (digits 0 n) (drop at text))
+    pub digits-end : length text ≤ end → end - at ≡ n → Is v ≡ endOf (lastIn 6 (digits 0 n) (drop at text))
     digits-end l d =
         let D = leadingDigits 19 (drop at text) in
-        ap Is is ∙ sym (ap lastOf (last-taken (Digits n) (drop at text) 6 D (whole l) (eq-eqb (length D) n (omega arith)) refl))
+        ap Is is ∙ sym (ap endOf (last-taken (Digits n) (drop at text) 6 D (whole l) (eq-eqb (length D) n (omega arith)) refl))
 
   -- a last part that is an integer of b bits
   module _ (b : ℕ) where
-    pub integer-none : end ≡ at → Refused 7 ≡ lastOf (lastIn 7 (integer b) (drop at text))
+    pub integer-none : end ≡ at → Refused 7 ≡ endOf (lastIn 7 (integer b) (drop at text))
     integer-none e = ⊎-elim (λ (l : end < length text). behind l (all isDigit (drop end text)) refl) all-of-it (lt-or-ge end (length text))
       where
         nothing : length (leadingDigits 19 (drop at text)) ≡ 0
         nothing = omega arith
 
-        all-of-it : length text ≤ end → Refused 7 ≡ lastOf (lastIn 7 (integer b) (drop at text))
+        all-of-it : length text ≤ end → Refused 7 ≡ endOf (lastIn 7 (integer b) (drop at text))
         all-of-it m = rw nothing at (integer-sized b (drop at text) (leadingDigits 19 (drop at text)) (whole m))
 
-        behind : end < length text → (t : Bool) → all isDigit (drop end text) ≡ t → Refused 7 ≡ lastOf (lastIn 7 (integer b) (drop at text))
-        behind l false h = sym (ap lastOf (last-none (Integer b) (drop at text) 7 (not-digits h)))
+        behind : end < length text → (t : Bool) → all isDigit (drop end text) ≡ t → Refused 7 ≡ endOf (lastIn 7 (integer b) (drop at text))
+        behind l false h = sym (ap endOf (last-none (Integer b) (drop at text) 7 (not-digits h)))
         behind l true h = let (es, q, n, m) = more-digits l h in absurd (omega arith)
 
     pub integer-behind : b ≤ 63 → at < end → end < length text
-        → longerOf (all isDigit (drop end text)) (eqb (getD text at 0) 48) ≡ lastOf (lastIn 7 (integer b) (drop at text))
+        → longerOf (all isDigit (drop end text)) (eqb (getD text at 0) 48) ≡ endOf (lastIn 7 (integer b) (drop at text))
     integer-behind few s l =
         let D = leadingDigits 19 (drop at text) in
         rw (first-byte text at, zero-of D (drop (length D) (drop at text)) (omega arith)) (go (all isDigit (drop end text)) refl)
       where
-        go : (t : Bool) → all isDigit (drop end text) ≡ t → longerOf t (zeroFirst (leadingDigits 19 (drop at text))) ≡ lastOf (lastIn 7 (integer b) (drop at text))
-        go false h = sym (ap lastOf (last-none (Integer b) (drop at text) 7 (not-digits h)))
+        go : (t : Bool) → all isDigit (drop end text) ≡ t → longerOf t (zeroFirst (leadingDigits 19 (drop at text))) ≡ endOf (lastIn 7 (integer b) (drop at text))
+        go false h = sym (ap endOf (last-none (Integer b) (drop at text) 7 (not-digits h)))
         go true h =
             let (es, q, k, m) = more-digits l h in
             let D = leadingDigits 19 (drop at text) in
             rw (sym (zero-append D es (omega arith))) (integer-long b (drop at text) (D ++ es) q few (omega (arith, length-append D es)))
 
     pub integer-end : at < end → length text ≤ end
-        → shorterOf b (end - at) (eqb (getD text at 0) 48) v ≡ lastOf (lastIn 7 (integer b) (drop at text))
+        → shorterOf b (end - at) (eqb (getD text at 0) 48) v ≡ endOf (lastIn 7 (integer b) (drop at text))
     integer-end s l =
         let D = leadingDigits 19 (drop at text) in
         let n : end - at ≡ length D = omega arith in

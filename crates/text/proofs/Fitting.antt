@@ -11,7 +11,7 @@ use lib.ListN.{length}
 use borrow.Author.Tests.{lt-ltb, le-ltb, le-leb, lt-leb, eq-eqb, ne-eqb}
 use Rattle.numeral.specs.Numeral.{value}
 use Rattle.numeral.proofs.Arithmetic.{lt-or-ge}
-use Rattle.rules.specs.Schemes.{prefix}
+use Rattle.rules.specs.Schemes.{company}
 use Rattle.rules.specs.Grammar.{plainNumber, shaped, sized}
 use Rattle.digits.proofs.Parts.{long-value}
 use Rattle.text.specs.Parts.{formOf, Short, plainly, fitting}
@@ -51,7 +51,7 @@ plainly-is (d ∷ e ∷ ds) = rw (ne-eqb (suc (suc (length ds))) 1 (λ q. omega 
 
 -- the test by numbers is the grammar's
 pub fitting-is : (f : Form) (ds : List ℕ) → fitting (formOf f) (length ds) (zeroFirst ds) (value 10 ds) ≡ (shaped (formOf f) ds && sized (formOf f) ds)
-fitting-is Prefix ds = and-true (shaped prefix ds)
+fitting-is Prefix ds = and-true (shaped company ds)
 fitting-is (Digits n) ds = and-true (eqb (length ds) n)
 fitting-is (Integer b) ds = rw (plainly-is ds)
 

@@ -19,12 +19,12 @@ use Rattle.rules.proofs.Tests.{both}
 use Rattle.rules.proofs.Runs.{run-is}
 use Rattle.rules.proofs.Decimals.{digits-is}
 use Rattle.digits.proofs.Texts.{length-text}
-use Rattle.text.specs.Parts.{formOf, foundOf, lastOf}
+use Rattle.text.specs.Parts.{formOf, foundOf, endOf}
 use Rattle.text.specs.declared.parts.Form.{Form}
 use Rattle.text.specs.declared.parts.Part.the-variants.{Wrong}
 use Rattle.text.specs.declared.parts.Part.the-variants.{Is as Found}
 use Rattle.text.proofs.Standing.{right, part-refused, part-taken}
-use Rattle.text.specs.declared.parts.Last.the-variants.{Is, Refused}
+use Rattle.text.specs.declared.parts.End.the-variants.{Is, Refused}
 
 -- A part is refused with the number asked for; what is taken does not depend on that number.
 record Right (f : Form) (u ds : List ℕ) : Type 0 where
@@ -93,10 +93,10 @@ module _ (n : ℕ) (f : Form) (text : List ℕ) (at : ℕ) where
       (view f (drop at text))
 
 -- the last part
-pub last-refused : (n : ℕ) (a : Answer (List ℕ)) → Refused n ≡ lastOf a → a ≡ refused n
+pub last-refused : (n : ℕ) (a : Answer (List ℕ)) → Refused n ≡ endOf a → a ≡ refused n
 last-refused n (refused m) e = cc
 last-refused n (taken p) e = let x : _≡_ {A = ℕ} 0 1 = cc in absurd (omega arith)
 
-pub last-is : (v : ℕ) (a : Answer (List ℕ)) → Is v ≡ lastOf a → (p : List ℕ) × (a ≡ taken p) × (v ≡ value 10 p)
+pub last-is : (v : ℕ) (a : Answer (List ℕ)) → Is v ≡ endOf a → (p : List ℕ) × (a ≡ taken p) × (v ≡ value 10 p)
 last-is v (refused m) e = let x : _≡_ {A = ℕ} 0 1 = cc in absurd (omega arith)
 last-is v (taken p) e = (p, refl, cc)

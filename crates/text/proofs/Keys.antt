@@ -20,7 +20,8 @@ use Rattle.rules.specs.TextNumbers.{Named as RulesNamed}
 use Rattle.rules.proofs.Runs.{without, run-is, among-of, upto-of}
 use Rattle.rules.proofs.TextReads.{named-is, named-of}
 use Rattle.rules.proofs.Answers.{Gives}
-use Rattle.text.specs.Names.{Tailed, namedBy, namedAt, firstOf, restOf, keyOf, keyed, keyedBy}
+use Rattle.text.proofs.Tails.{Tailed}
+use Rattle.text.specs.Names.{namedBy, namedAt, firstOf, restOf, keyOf, keyed, keyedBy}
 use Rattle.text.specs.declared.names.Named.the-variants.{Is, Unlisted}
 use Rattle.text.specs.declared.names.Tail.{Tail}
 use Rattle.text.specs.declared.names.Keyed.{Keyed}

@@ -9,6 +9,5 @@ pub mod Starts
 pub mod Found
 pub mod Lasts
 pub mod Whole
-pub mod Joins
 pub mod Rooms
 pub mod Written

@@ -1,10 +1,9 @@
 -- What a text names: a scheme and where the text goes on, or none.
-use Prim.Native.Nat.{ℕ, _+_, _≤_}
-use mathlib.Core.Path.{_≡_}
-use mathlib.Core.Bool.{true, false, cond}
+use Prim.Native.Nat.{ℕ, _+_}
+use mathlib.Core.Bool.{true, false, _&&_, cond}
 use mathlib.Core.List.{List, [], _∷_}
 use mathlib.Core.Option.{Option, none, some}
-use lib.Dec.{eqb}
+use lib.Dec.{leb, eqb}
 use lib.ListN.{length, getD, drop}
 use Rattle.numeral.specs.Numeral.{value}
 use Rattle.rules.specs.declared.Scheme.{Scheme}
@@ -48,7 +47,12 @@ keyed k (s ∷ ss) = let r = keyed k ss in cond (eqb k (keyOf s)) (By s (firstOf
 unfoldable pub keyedBy : ℕ → Keyed
 keyedBy k = keyed k schemes
 
--- r is the run of u up to a colon as one number, if there is a colon and the run has at most eight bytes
-pub record Tailed (u : List ℕ) (r : Tail) : Type 0 where
-  pub found : r .right ≡ true → (among colon u ≡ true) × (length (upto colon u) ≤ 8) × (r .value ≡ value 256 (upto colon u)) × (r .length ≡ length (upto colon u))
-  pub missing : r .right ≡ false → among colon u ≡ true → ¬ (length (upto colon u) ≤ 8)
+-- the run of u up to its colon as one number, if there is a colon and the run has at most eight bytes
+abbrev pub noTail : Tail
+noTail = record { right = false; value = 0; length = 0 }
+
+abbrev pub tail : List ℕ → Tail
+tail run = record { right = true; value = value 256 run; length = length run }
+
+unfoldable pub tailOf : List ℕ → Tail
+tailOf u = cond (among colon u && leb (length (upto colon u)) 8) (tail (upto colon u)) noTail

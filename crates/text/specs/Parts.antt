@@ -6,19 +6,19 @@ use lib.Dec.{leb, ltb, eqb}
 use lib.ListN.{length}
 use Rattle.numeral.specs.Numeral.{value}
 use Rattle.rules.specs.Answers.{Answer, refused, taken}
-use Rattle.rules.specs.Schemes.{prefix, digits, integer, string}
+use Rattle.rules.specs.Schemes.{company, digits, integer, string}
 use Rattle.rules.specs.Schemes.{Form as RulesForm}
 use Rattle.text.specs.declared.parts.Form.{Form}
 use Rattle.text.specs.declared.parts.Form.the-variants.{Prefix, Digits, Integer}
 use Rattle.text.specs.declared.parts.Part.{Part}
 use Rattle.text.specs.declared.parts.Part.the-variants.{Wrong}
 use Rattle.text.specs.declared.parts.Part.the-variants.{Is as Found}
-use Rattle.text.specs.declared.parts.Last.{Last}
-use Rattle.text.specs.declared.parts.Last.the-variants.{Is, Refused}
+use Rattle.text.specs.declared.parts.End.{End}
+use Rattle.text.specs.declared.parts.End.the-variants.{Is, Refused}
 
 -- the rules' form; the bits of a part with a fixed number of digits play no part in its text
 abbrev pub formOf : Form → RulesForm
-formOf Prefix = prefix
+formOf Prefix = company
 formOf (Digits n) = digits 0 n
 formOf (Integer b) = integer b
 
@@ -34,7 +34,7 @@ plainly n zero = eqb n 1 || (ltb 1 n && not zero)
 
 -- a part's test by numbers alone: how many digits, whether the first is 0, the value
 abbrev pub fitting : RulesForm → ℕ → Bool → ℕ → Bool
-fitting prefix n zero v = leb 6 n && leb n 12
+fitting company n zero v = leb 6 n && leb n 12
 fitting (digits b k) n zero v = eqb n k
 fitting (integer b) n zero v = plainly n zero && ltb v (2 ^ b)
 fitting (string b) n zero v = false
@@ -44,21 +44,21 @@ abbrev pub foundOf : ℕ → Answer (List ℕ) → Part
 foundOf at (refused n) = Wrong
 foundOf at (taken p) = Found (value 10 p) (length p) (at + length p + 1)
 
--- what a last part is in code
-abbrev pub lastOf : Answer (List ℕ) → Last
-lastOf (refused n) = Refused n
-lastOf (taken p) = Is (value 10 p)
+-- what a part that ends the text is in code
+abbrev pub endOf : Answer (List ℕ) → End
+endOf (refused n) = Refused n
+endOf (taken p) = Is (value 10 p)
 
 -- an integer of more digits than are read, by the rest of it and its first digit
-abbrev pub longerOf : Bool → Bool → Last
+abbrev pub longerOf : Bool → Bool → End
 longerOf true true = Refused 7
 longerOf true false = Refused 8
 longerOf false zero = Refused 7
 
 -- an integer by its number of digits, its first digit and its value: its form, then its size
-abbrev pub sizedOf : Bool → ℕ → Last
+abbrev pub sizedOf : Bool → ℕ → End
 sizedOf true v = Is v
 sizedOf false v = Refused 8
 
-abbrev pub shorterOf : ℕ → ℕ → Bool → ℕ → Last
+abbrev pub shorterOf : ℕ → ℕ → Bool → ℕ → End
 shorterOf b n zero v = cond (plainly n zero) (sizedOf (ltb v (2 ^ b)) v) (Refused 7)

@@ -1,18 +1,17 @@
--- A text's parts as the code holds them: what follows the company prefix, then the whole record.
-use Prim.Native.Nat.{ℕ, _≤_}
-use mathlib.Core.Path.{_≡_}
+-- The parts of a text as the code holds them: what follows the company prefix, then the whole record.
+use Prim.Native.Nat.{ℕ}
 use mathlib.Core.Bool.{Bool, true, false}
 use mathlib.Core.List.{List, []}
 use mathlib.Core.Option.{Option, none, some}
 use lib.ListN.{length}
 use Rattle.rules.specs.declared.Scheme.{Scheme}
+use Rattle.rules.specs.declared.Last.{Last}
+use Rattle.rules.specs.declared.Body.{Body}
+use Rattle.rules.specs.declared.Body.the-variants.{Then, Zeros, E}
 use Rattle.rules.specs.Answers.{Answer, refused, taken, _>>=_}
-use Rattle.rules.specs.Schemes.{Form, integer, _then_, _zeros_, E, F, integers, about}
-use Rattle.rules.specs.Schemes.{Parts as RulesParts}
-use Rattle.rules.specs.Grammar.{Layout, part, last, bodyLayout}
+use Rattle.rules.specs.Schemes.{Form}
+use Rattle.rules.specs.Grammar.{reference, last, Layout, part, end}
 use Rattle.scheme.specs.declared.record.Reading.{Reading}
-use Rattle.scheme.specs.declared.lines.Parts.{Parts}
-use Rattle.scheme.specs.Lines.{partsFor, Tabled}
 use Rattle.scheme.specs.Records.{partAt, valueAt, lastNumber, lastCharacters, padded, refusal, readingOf}
 use Rattle.text.specs.declared.reading.Head.{Head}
 
@@ -20,7 +19,7 @@ abbrev pub begun : Option (List ℕ) → Bool
 begun none = false
 begun (some u) = true
 
--- the record of what is read: its head, and the reference and the last part
+-- the record of what is read: its head, the reference, and the last part as an integer or as characters
 abbrev pub taggedWith : Head → ℕ → ℕ → List ℕ → ℕ → Reading
 taggedWith h r n cs k = record {
   number = 0;
@@ -39,41 +38,28 @@ taggedWith h r n cs k = record {
 abbrev pub tagged : Head → ℕ → ℕ → List ℕ → Reading
 tagged h r n cs = taggedWith h r n (padded cs) (length cs)
 
--- a reference, and a last part behind its dot
+-- a reference with a dot behind it, and a last part
 abbrev pub referred : Form → Form → Layout
-referred f g = part 6 f λ _. last 7 g
+referred f g = part reference f λ _. end last g
 
-abbrev pub lastOf : Head → Form → Answer (List (List ℕ)) → Reading
-lastOf h f (refused n) = refusal n
-lastOf h f (taken ps) = tagged h (valueAt ps 0) (lastNumber f (partAt ps 1)) (lastCharacters f (partAt ps 1))
+abbrev pub withLast : Head → Last → Answer (List (List ℕ)) → Reading
+withLast h l (refused n) = refusal n
+withLast h l (taken ps) = tagged h (valueAt ps 0) (lastNumber l (partAt ps 1)) (lastCharacters l (partAt ps 1))
 
--- a reference that is the last part: a number of digits, or an integer
-abbrev pub aloneOf : Head → Answer (List (List ℕ)) → Reading
-aloneOf h (refused n) = refusal n
-aloneOf h (taken ps) = tagged h (valueAt ps 0) 0 []
+-- a reference that ends the text: of A to D, or of E
+abbrev pub referenceAlone : Head → Answer (List (List ℕ)) → Reading
+referenceAlone h (refused n) = refusal n
+referenceAlone h (taken ps) = tagged h (valueAt ps 0) 0 []
 
-abbrev pub assetOf : Head → Answer (List (List ℕ)) → Reading
-assetOf h (refused n) = refusal n
-assetOf h (taken ps) = tagged h 0 (valueAt ps 0) []
+abbrev pub assetAlone : Head → Answer (List (List ℕ)) → Reading
+assetAlone h (refused n) = refusal n
+assetAlone h (taken ps) = tagged h 0 (valueAt ps 0) []
 
--- what follows the company prefix of n digits, or gid-96's first integer
-abbrev pub restLayout : RulesParts → ℕ → Layout
-restLayout (F body) n = bodyLayout body n
-restLayout (integers a b c) n = referred (integer b) (integer c)
-
-abbrev pub restOf : Head → RulesParts → Answer (List (List ℕ)) → Reading
-restOf h (F (t then f)) = lastOf h f
-restOf h (F (t zeros z)) = aloneOf h
-restOf h (F E) = assetOf h
-restOf h (integers a b c) = lastOf h (integer c)
-
--- a scheme's parts in code
-abbrev pub AreParts : Scheme → Parts → Type 0
-AreParts s p = p ≡ partsFor (about s .parts)
-
--- where there is a partition table, the digits of the company prefix pick a row of it
-abbrev pub Picked : Parts → ℕ → Type 0
-Picked p n = Tabled p → (6 ≤ n) × (n ≤ 12)
+-- what follows the company prefix
+abbrev pub behindPrefix : Head → Body → Answer (List (List ℕ)) → Reading
+behindPrefix h (Then t l) = withLast h l
+behindPrefix h (Zeros t z) = referenceAlone h
+behindPrefix h E = assetAlone h
 
 -- what the parts of a scheme give
 abbrev pub readAs : Scheme → Answer (List (List ℕ)) → Reading

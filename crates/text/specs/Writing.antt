@@ -1,9 +1,16 @@
--- What writing a record leaves: the text of its tag; piece by piece, the record's values.
+-- The text of a tag piece by piece, from the values of its record.
 use Prim.Native.Nat.{ℕ, _≤_, _<_}
+use mathlib.Core.Path.{_≡_}
 use mathlib.Core.List.{List, [], _∷_, _++_}
+use lib.ListN.{length, take}
 use Rattle.numeral.specs.Numeral.{numeral, shortest}
 use Rattle.rules.specs.declared.Table.{Table}
+use Rattle.rules.specs.declared.Last.{Last}
+use Rattle.rules.specs.declared.Last.the-variants.{Integer, String}
+use Rattle.rules.specs.declared.Body.{Body}
+use Rattle.rules.specs.declared.Body.the-variants.{Then, Zeros, E}
 use Rattle.rules.specs.Bytes.{dot, digitsText}
+use Rattle.rules.specs.Characters.{stringText}
 use Rattle.rules.specs.Schemes.{cell, rowOf}
 use Rattle.scheme.specs.declared.record.Record.{Record}
 
@@ -18,9 +25,20 @@ numberText n v = digitsText (numeral 10 n v)
 abbrev pub companyText : Record → List ℕ
 companyText r = integerText (r .filter) ++ dot ∷ (numberText (r .digits) (r .prefix) ++ dot ∷ [])
 
--- the same and the reference of one of the tables A to D
-abbrev pub tableText : Table → Record → List ℕ
-tableText t r = companyText r ++ numberText (cell t (rowOf (r .digits)) .1) (r .reference)
+-- the reference of one of the tables A to D
+abbrev pub referenceText : Table → Record → List ℕ
+referenceText t r = numberText (cell t (rowOf (r .digits)) .1) (r .reference)
+
+-- the last part behind it
+abbrev pub lastText : Last → Record → List ℕ
+lastText (Integer b) r = integerText (r .serial)
+lastText (String b) r = stringText (take (r .count) (r .characters))
+
+-- a partition table with what follows its reference
+abbrev pub bodyText : Body → Record → List ℕ
+bodyText (Then t l) r = companyText r ++ (referenceText t r ++ dot ∷ lastText l r)
+bodyText (Zeros t z) r = companyText r ++ referenceText t r
+bodyText E r = companyText r ++ integerText (r .serial)
 
 -- gid-96's three integers
 abbrev pub integersText : Record → List ℕ
@@ -31,3 +49,13 @@ pub record Company (r : Record) : Type 0 where
   pub one-digit : r .filter < 10
   pub least : 6 ≤ r .digits
   pub most : r .digits ≤ 12
+
+-- the characters of a string are among the record's twenty
+abbrev pub Held : Last → Record → Type 0
+Held (Integer b) r = Unit
+Held (String b) r = (r .count ≤ 20) × (length (r .characters) ≡ 20)
+
+abbrev pub HeldBehind : Body → Record → Type 0
+HeldBehind (Then t l) r = Held l r
+HeldBehind (Zeros t z) r = Unit
+HeldBehind E r = Unit

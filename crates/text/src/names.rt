@@ -13,13 +13,12 @@ use scheme::types::Sgln195;
 use scheme::types::Sgtin96;
 use scheme::types::Sgtin198;
 use scheme::types::Sscc96;
-ghost use mathlib.Core.Bool.{false};
 ghost use mathlib.Core.Path.{_≡_};
 ghost use Prim.Native.Nat.{_≤_};
 ghost use lib.ListN.{length, drop};
 ghost use Rattle.rules.specs.Schemes.{schemes};
 ghost use Rattle.rules.specs.TextNumbers.{named};
-ghost use Rattle.text.specs.Names.{namedAt, Tailed, keyedBy};
+ghost use Rattle.text.specs.Names.{namedAt, noTail, tailOf, keyedBy};
 
 // A scheme, and where the text goes on behind its colon.
 pub enum Named {
@@ -34,8 +33,9 @@ struct Tail {
     length: usize,
 }
 
+// Not so: there is no colon, or it stands further on.
 fn no_tail() -> Tail
-    ensures { λ r. ⌜ r .right ≡ false ⌝ }
+    ensures { λ r. ⌜ r ≡ noTail ⌝ }
 {
     Tail {
         right: false,
@@ -46,7 +46,7 @@ fn no_tail() -> Tail
 
 fn tail_at(text: &[u8], at: usize) -> Tail
     requires { ⌜ at ≤ length (now text) ⌝ }
-    ensures { λ r. ⌜ Tailed (drop at (now (text .entry))) r ⌝ }
+    ensures { λ r. ⌜ r ≡ tailOf (drop at (now (text .entry))) ⌝ }
 {
     let mut n = 0;
     let mut value: u64 = 0;

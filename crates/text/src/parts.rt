@@ -1,13 +1,14 @@
 // The numeric parts of a text: up to the next dot, or to the end (document 01, "Numbers given, and when": 4 to 8).
 use digits::all_digits;
 use digits::run_at;
+use scheme::refusal;
 ghost use mathlib.Core.Path.{_≡_};
 ghost use Prim.Native.Nat.{_≤_};
 ghost use lib.ListN.{length, drop};
 ghost use Rattle.rules.specs.Bytes.{all};
 ghost use Rattle.rules.specs.Schemes.{digits, integer};
 ghost use Rattle.rules.specs.TextNumbers.{isDigit, partIn, lastIn};
-ghost use Rattle.text.specs.Parts.{formOf, Short, plainly, fitting, foundOf, lastOf, longerOf, shorterOf};
+ghost use Rattle.text.specs.Parts.{formOf, Short, plainly, fitting, foundOf, endOf, longerOf, shorterOf};
 
 // How a part is written: as a company prefix, with exactly so many digits, or as an integer of so many bits.
 pub enum Form {
@@ -22,7 +23,7 @@ pub enum Part {
     Wrong,
 }
 
-// Whether n digits, the first a zero or not, are `0` or begin with another digit.
+// Whether n digits are an integer as it is written: `0`, or no leading zero. `zero` says whether the first digit is 0.
 fn is_plain(n: usize, zero: bool) -> bool
     ensures { λ r. ⌜ r ≡ plainly n zero ⌝ }
 {
@@ -35,7 +36,7 @@ fn is_plain(n: usize, zero: bool) -> bool
     1 < n
 }
 
-// Whether they are such an integer, below 2 to the power of its bits.
+// Whether n digits are such an integer, with a value below 2 to the power of its bits.
 fn is_integer(n: usize, zero: bool, value: u64, bits: usize) -> bool
     requires { ⌜ bits ≤ 63 ⌝ }
     ensures { λ r. ⌜ r ≡ fitting (integer bits) n zero value ⌝ }
@@ -46,7 +47,7 @@ fn is_integer(n: usize, zero: bool, value: u64, bits: usize) -> bool
     false
 }
 
-// Whether they are in the form, and not too large.
+// Whether n digits are a part of this form: the right number of digits, no leading zero, not too large.
 fn fits(form: Form, n: usize, zero: bool, value: u64) -> bool
     requires { ⌜ Short form ⌝ }
     ensures { λ r. ⌜ r ≡ fitting (formOf form) n zero value ⌝ }
@@ -83,65 +84,66 @@ pub fn part_at(text: &[u8], at: usize, form: Form) -> Part
     Part::Wrong
 }
 
-// A last part: its value, or the number of its refusal.
-pub enum Last {
+// A part that ends the text: its value, or the number of its refusal.
+pub enum End {
     Is(u64),
     Refused(u8),
 }
 
-// The last part as exactly n digits (table B's reference).
-pub fn last_digits(text: &[u8], at: usize, n: usize) -> Last
+// The rest of the text from index `at` on, as exactly n digits: table B's reference.
+pub fn digits_to_end(text: &[u8], at: usize, n: usize) -> End
     requires { ⌜ (at ≤ length (now text)) × (n ≤ 19) ⌝ }
-    ensures { λ r. ⌜ r ≡ lastOf (lastIn 6 (digits 0 n) (drop at (now (text .entry)))) ⌝ }
+    ensures { λ r. ⌜ r ≡ endOf (lastIn 6 (digits 0 n) (drop at (now (text .entry)))) ⌝ }
 {
     let run = run_at(text, at);
     let end = run.end;
     if end < text.len() {
-        return Last::Refused(6);
+        return End::Refused(refusal::REFERENCE);
     }
     if end - at != n {
-        return Last::Refused(6);
+        return End::Refused(refusal::REFERENCE);
     }
-    Last::Is(run.value)
+    End::Is(run.value)
 }
 
-// An integer of more than nineteen digits, of which the first is read: too large, unless its form is wrong.
-fn longer(text: &[u8], at: usize, zero: bool) -> Last
+// An integer of more than nineteen digits. The bytes from index `at` on are still to be read; `zero` says whether its first digit is 0. It
+// is too large, unless its form is wrong.
+fn longer(text: &[u8], at: usize, zero: bool) -> End
     requires { ⌜ at ≤ length (now text) ⌝ }
     ensures { λ r. ⌜ r ≡ longerOf (all isDigit (drop at (now (text .entry)))) zero ⌝ }
 {
     if !all_digits(text, at) {
-        return Last::Refused(7);
+        return End::Refused(refusal::LAST_PART_FORM);
     }
     if zero {
-        return Last::Refused(7);
+        return End::Refused(refusal::LAST_PART_FORM);
     }
-    Last::Refused(8)
+    End::Refused(refusal::LAST_PART_SIZE)
 }
 
-// An integer that is read to its end.
-fn shorter(n: usize, zero: bool, value: u64, bits: usize) -> Last
+// An integer of n digits, at most nineteen. `zero` says whether its first digit is 0.
+fn shorter(n: usize, zero: bool, value: u64, bits: usize) -> End
     requires { ⌜ bits ≤ 63 ⌝ }
     ensures { λ r. ⌜ r ≡ shorterOf bits n zero value ⌝ }
 {
     if !is_plain(n, zero) {
-        return Last::Refused(7);
+        return End::Refused(refusal::LAST_PART_FORM);
     }
     if value >> bits == 0 {
-        return Last::Is(value);
+        return End::Is(value);
     }
-    Last::Refused(8)
+    End::Refused(refusal::LAST_PART_SIZE)
 }
 
-// The last part as an integer: its form, over all of it, is judged before its size.
-pub fn last_integer(text: &[u8], at: usize, bits: usize) -> Last
+// The rest of the text from index `at` on, as an integer. Its whole form is judged before its size.
+pub fn integer_to_end(text: &[u8], at: usize, bits: usize) -> End
     requires { ⌜ (at ≤ length (now text)) × (bits ≤ 63) ⌝ }
-    ensures { λ r. ⌜ r ≡ lastOf (lastIn 7 (integer bits) (drop at (now (text .entry)))) ⌝ }
+    ensures { λ r. ⌜ r ≡ endOf (lastIn 7 (integer bits) (drop at (now (text .entry)))) ⌝ }
 {
     let run = run_at(text, at);
     let end = run.end;
     if end == at {
-        return Last::Refused(7);
+        return End::Refused(refusal::LAST_PART_FORM);
     }
     let zero = text[at] == b'0';
     if end < text.len() {

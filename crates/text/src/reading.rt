@@ -1,30 +1,33 @@
 // A text to the record of its tag, read left to right (document 01, "Numbers given, and when": 2 to 8).
 use super::names::Named;
 use super::names::name;
+use super::parts::End;
 use super::parts::Form;
-use super::parts::Last;
 use super::parts::Part;
-use super::parts::last_digits;
-use super::parts::last_integer;
+use super::parts::digits_to_end;
+use super::parts::integer_to_end;
 use super::parts::part_at;
+use rules::Body;
+use rules::Last;
+use rules::Parts;
 use rules::Scheme;
 use rules::Table;
-use scheme::lines::Parts;
-use scheme::lines::about;
+use scheme::outlines::about;
 use scheme::record::Reading;
 use scheme::record::Record;
 use scheme::record::refused;
+use scheme::refusal;
 use scheme::rows;
 ghost use mathlib.Core.Path.{_≡_};
 ghost use Prim.Native.Nat.{_≤_};
 ghost use lib.ListN.{length, drop};
-ghost use Rattle.rules.specs.Schemes.{digits, integer, string, rowOf, cell};
-ghost use Rattle.rules.specs.Grammar.{last, layout, start};
+ghost use Rattle.rules.specs.Schemes.{digits, integer, string, rowOf, cell, about as aboutOf};
+ghost use Rattle.rules.specs.Grammar.{reference as referenceRole, last, end, bodyLayout, layout, start};
 ghost use Rattle.rules.specs.TextNumbers.{after, partsIn, tagOfText};
-ghost use Rattle.scheme.specs.Lines.{partsOf, Tabled, Narrow};
+ghost use Rattle.scheme.specs.Outlines.{Narrow};
 ghost use Rattle.scheme.specs.Records.{readingOf};
 ghost use Rattle.text.specs.Parts.{formOf, Short};
-ghost use Rattle.text.specs.Reading.{begun, taggedWith, lastOf, referred, aloneOf, assetOf, restOf, restLayout, Picked, AreParts, readAs};
+ghost use Rattle.text.specs.Reading.{begun, taggedWith, referred, withLast, referenceAlone, assetAlone, behindPrefix, readAs};
 
 // Whether a text begins with `urn:epc:tag:`.
 fn begins(text: &[u8]) -> bool
@@ -42,7 +45,7 @@ fn begins(text: &[u8]) -> bool
     true
 }
 
-// What stands before the reference. gid-96 has no filter, and no digits of its first integer count.
+// What stands before the reference. For gid-96 `prefix` is its first integer, and `filter` and `digits` are 0.
 struct Head {
     scheme: Scheme,
     filter: u64,
@@ -72,31 +75,31 @@ fn tagged(head: Head, reference: u64, serial: u64, characters: [u8; 20], count: 
 // A reference, then an integer.
 fn with_integer(text: &[u8], at: usize, head: Head, reference: Form, bits: usize) -> Reading
     requires { ⌜ (at ≤ length (now text)) × Short reference × (bits ≤ 63) ⌝ }
-    ensures { λ r. ⌜ r ≡ lastOf head (integer bits) (partsIn (referred (formOf reference) (integer bits)) (drop at (now (text .entry)))) ⌝ }
+    ensures { λ r. ⌜ r ≡ withLast head (Last.Integer bits) (partsIn (referred (formOf reference) (integer bits)) (drop at (now (text .entry)))) ⌝ }
 {
     let Part::Is(value, _, next) = part_at(text, at, reference) else {
-        return refused(6);
+        return refused(refusal::REFERENCE);
     };
-    match last_integer(text, next, bits) {
-        Last::Is(serial) => tagged(head, value, serial, [0; 20], 0),
-        Last::Refused(n) => refused(n),
+    match integer_to_end(text, next, bits) {
+        End::Is(serial) => tagged(head, value, serial, [0; 20], 0),
+        End::Refused(n) => refused(n),
     }
 }
 
 // A reference of so many digits, then a string.
 fn with_string(text: &[u8], at: usize, head: Head, reference: usize, bits: usize) -> Reading
     requires { ⌜ (at ≤ length (now text)) × (reference ≤ 19) ⌝ }
-    ensures { λ r. ⌜ r ≡ lastOf head (string bits) (partsIn (referred (digits 0 reference) (string bits)) (drop at (now (text .entry)))) ⌝ }
+    ensures { λ r. ⌜ r ≡ withLast head (Last.String bits) (partsIn (referred (digits 0 reference) (string bits)) (drop at (now (text .entry)))) ⌝ }
 {
     let Part::Is(value, _, next) = part_at(text, at, Form::Digits(reference)) else {
-        return refused(6);
+        return refused(refusal::REFERENCE);
     };
     let s = alphabet::read(text, next);
     if s.count == 0 {
-        return refused(7);
+        return refused(refusal::LAST_PART_FORM);
     }
     if bits / 7 < s.count {
-        return refused(8);
+        return refused(refusal::LAST_PART_SIZE);
     }
     let characters = s.characters;
     tagged(head, value, 0, characters, s.count)
@@ -105,22 +108,22 @@ fn with_string(text: &[u8], at: usize, head: Head, reference: usize, bits: usize
 // A reference of so many digits, to the end of the text.
 fn reference_alone(text: &[u8], at: usize, head: Head, reference: usize) -> Reading
     requires { ⌜ (at ≤ length (now text)) × (reference ≤ 19) ⌝ }
-    ensures { λ r. ⌜ r ≡ aloneOf head (partsIn (last 6 (digits 0 reference)) (drop at (now (text .entry)))) ⌝ }
+    ensures { λ r. ⌜ r ≡ referenceAlone head (partsIn (end referenceRole (digits 0 reference)) (drop at (now (text .entry)))) ⌝ }
 {
-    match last_digits(text, at, reference) {
-        Last::Is(value) => tagged(head, value, 0, [0; 20], 0),
-        Last::Refused(n) => refused(n),
+    match digits_to_end(text, at, reference) {
+        End::Is(value) => tagged(head, value, 0, [0; 20], 0),
+        End::Refused(n) => refused(n),
     }
 }
 
 // The reference of table E, an integer, to the end of the text.
 fn asset_alone(text: &[u8], at: usize, head: Head, bits: usize) -> Reading
     requires { ⌜ (at ≤ length (now text)) × (bits ≤ 63) ⌝ }
-    ensures { λ r. ⌜ r ≡ assetOf head (partsIn (last 7 (integer bits)) (drop at (now (text .entry)))) ⌝ }
+    ensures { λ r. ⌜ r ≡ assetAlone head (partsIn (end last (integer bits)) (drop at (now (text .entry)))) ⌝ }
 {
-    match last_integer(text, at, bits) {
-        Last::Is(serial) => tagged(head, 0, serial, [0; 20], 0),
-        Last::Refused(n) => refused(n),
+    match integer_to_end(text, at, bits) {
+        End::Is(serial) => tagged(head, 0, serial, [0; 20], 0),
+        End::Refused(n) => refused(n),
     }
 }
 
@@ -133,34 +136,32 @@ fn reference_digits(t: Table, prefix: usize) -> usize
     rows::reference(t, rows::by_digits(prefix)).digits
 }
 
-// What follows the company prefix, or gid-96's first integer.
-fn body(text: &[u8], at: usize, head: Head, p: Parts) -> Reading
-    requires { ⌜ (at ≤ length (now text)) × Narrow p × Picked p (head .digits) ⌝ }
-    ensures { λ r. ⌜ r ≡ restOf head (partsOf p) (partsIn (restLayout (partsOf p) (head .digits)) (drop at (now (text .entry)))) ⌝ }
+// What follows the company prefix.
+fn behind_prefix(text: &[u8], at: usize, head: Head, body: Body) -> Reading
+    requires { ⌜ (at ≤ length (now text)) × Narrow (Parts.F body) × (6 ≤ head .digits) × (head .digits ≤ 12) ⌝ }
+    ensures { λ r. ⌜ r ≡ behindPrefix head body (partsIn (bodyLayout body (head .digits)) (drop at (now (text .entry)))) ⌝ }
 {
     let digits = head.digits;
-    match p {
-        Parts::Integer(t, bits) => with_integer(
-            text,
-            at,
-            head,
-            Form::Digits(reference_digits(t, digits)),
-            bits,
-        ),
-        Parts::String(t, bits) => with_string(text, at, head, reference_digits(t, digits), bits),
-        Parts::Zeros(t, _) => reference_alone(text, at, head, reference_digits(t, digits)),
-        Parts::Asset => asset_alone(text, at, head, rows::asset(rows::by_digits(digits))),
-        Parts::Integers(_, b, c) => with_integer(text, at, head, Form::Integer(b), c),
+    match body {
+        Body::Then(t, l) => {
+            let n = reference_digits(t, digits);
+            match l {
+                Last::Integer(bits) => with_integer(text, at, head, Form::Digits(n), bits),
+                Last::String(bits) => with_string(text, at, head, n, bits),
+            }
+        }
+        Body::Zeros(t, _) => reference_alone(text, at, head, reference_digits(t, digits)),
+        Body::E => asset_alone(text, at, head, rows::asset(rows::by_digits(digits))),
     }
 }
 
-// gid-96: three integers. They are not left to `body`, which so has one caller and is compiled into it.
+// gid-96: three integers.
 fn general(text: &[u8], at: usize, s: Scheme, a: usize, b: usize, c: usize) -> Reading
-    requires { ⌜ (at ≤ length (now text)) × AreParts s (Parts.Integers a b c) ⌝ }
+    requires { ⌜ (at ≤ length (now text)) × (aboutOf s .parts ≡ Parts.Integers a b c) ⌝ }
     ensures { λ r. ⌜ r ≡ readAs s (partsIn (layout s) (drop at (now (text .entry)))) ⌝ }
 {
     let Part::Is(prefix, _, next) = part_at(text, at, Form::Integer(a)) else {
-        return refused(5);
+        return refused(refusal::PREFIX);
     };
     let head = Head {
         scheme: s,
@@ -172,15 +173,15 @@ fn general(text: &[u8], at: usize, s: Scheme, a: usize, b: usize, c: usize) -> R
 }
 
 // The other schemes: the filter, the company prefix, and what follows it.
-fn partitioned(text: &[u8], at: usize, s: Scheme, p: Parts) -> Reading
-    requires { ⌜ (at ≤ length (now text)) × AreParts s p × Tabled p ⌝ }
+fn partitioned(text: &[u8], at: usize, s: Scheme, body: Body) -> Reading
+    requires { ⌜ (at ≤ length (now text)) × (aboutOf s .parts ≡ Parts.F body) ⌝ }
     ensures { λ r. ⌜ r ≡ readAs s (partsIn (layout s) (drop at (now (text .entry)))) ⌝ }
 {
     let Part::Is(filter, _, behind) = part_at(text, at, Form::Integer(3)) else {
-        return refused(4);
+        return refused(refusal::FILTER);
     };
     let Part::Is(prefix, digits, next) = part_at(text, behind, Form::Prefix) else {
-        return refused(5);
+        return refused(refusal::PREFIX);
     };
     let head = Head {
         scheme: s,
@@ -188,10 +189,10 @@ fn partitioned(text: &[u8], at: usize, s: Scheme, p: Parts) -> Reading
         prefix,
         digits,
     };
-    body(text, next, head, p)
+    behind_prefix(text, next, head, body)
 }
 
-// The parts of a scheme.
+// The parts of a scheme, from index `at` on.
 fn parts_at(text: &[u8], at: usize, s: Scheme) -> Reading
     requires { ⌜ at ≤ length (now text) ⌝ }
     ensures { λ r. ⌜ r ≡ readAs s (partsIn (layout s) (drop at (now (text .entry)))) ⌝ }
@@ -199,7 +200,7 @@ fn parts_at(text: &[u8], at: usize, s: Scheme) -> Reading
     let p = about(s).parts;
     match p {
         Parts::Integers(a, b, c) => general(text, at, s, a, b, c),
-        _ => partitioned(text, at, s, p),
+        Parts::F(body) => partitioned(text, at, s, body),
     }
 }
 
@@ -208,10 +209,10 @@ pub fn read(text: &[u8]) -> Reading
     ensures { λ r. ⌜ r ≡ readingOf (tagOfText (now (text .entry))) ⌝ }
 {
     if !begins(text) {
-        return refused(2);
+        return refused(refusal::START);
     }
     match name(text, 12) {
         Named::Is(s, next) => parts_at(text, next, s),
-        Named::Unlisted => refused(3),
+        Named::Unlisted => refused(refusal::NAME),
     }
 }

@@ -1,10 +1,12 @@
 // The record of a tag to its text (document 01, "The text of a tag"). Each `put_` function writes a piece of it from index `at` on, and
 // returns the index after the piece.
 use digits::put_bytes;
+use rules::Body;
+use rules::Last;
+use rules::Parts;
 use rules::Scheme;
 use rules::Table;
-use scheme::lines;
-use scheme::lines::Parts;
+use scheme::outlines::about;
 use scheme::record::Record;
 use scheme::rows;
 ghost use mathlib.Core.List.{[], _∷_, _++_};
@@ -13,7 +15,8 @@ ghost use lib.ListN.{length};
 ghost use Rattle.rules.specs.Grammar.{start, label, textOf};
 ghost use Rattle.scheme.specs.Records.{HasTag, Writes};
 ghost use Rattle.digits.specs.Pieces.{Puts};
-ghost use Rattle.text.specs.Writing.{Company, integerText, companyText, tableText, integersText};
+ghost use Rattle.rules.specs.Calls.{textRoom};
+ghost use Rattle.text.specs.Writing.{Company, Held, HeldBehind, integerText, companyText, referenceText, lastText, bodyText, integersText};
 
 fn put_byte(out: &mut [u8], at: usize, b: u8) -> usize
     requires { ⌜ at < length (now out) ⌝ }
@@ -67,17 +70,16 @@ fn put_company(out: &mut [u8], at: usize, tag: Record) -> usize
     put_byte(out, q + tag.digits, b'.')
 }
 
-// The same and the reference of one of the tables A to D, with the digits of the row that the company prefix picks.
-fn put_table(out: &mut [u8], at: usize, table: Table, tag: Record) -> usize
-    requires { ⌜ Company tag × (at + 26 ≤ length (now out)) ⌝ }
-    ensures { λ r. ⌜ Puts (tableText table tag) at (now (out .entry)) r (now (out .exit)) ⌝ }
-    ensures { λ r. ⌜ r ≤ at + 26 ⌝ }
+// The reference of one of the tables A to D, with the digits of the row that the company prefix picks.
+fn put_reference(out: &mut [u8], at: usize, table: Table, tag: Record) -> usize
+    requires { ⌜ Company tag × (at + 11 ≤ length (now out)) ⌝ }
+    ensures { λ r. ⌜ Puts (referenceText table tag) at (now (out .entry)) r (now (out .exit)) ⌝ }
+    ensures { λ r. ⌜ r ≤ at + 11 ⌝ }
 {
-    let p = put_company(out, at, tag);
     let cell = rows::reference(table, rows::by_digits(tag.digits));
     let n = cell.digits;
-    digits::put_digits(out, p, n, tag.reference);
-    p + n
+    digits::put_digits(out, at, n, tag.reference);
+    at + n
 }
 
 // An integer: a word has at most 20 digits.
@@ -101,31 +103,45 @@ fn put_integers(out: &mut [u8], at: usize, tag: Record) -> usize
     put_integer(out, s, tag.serial)
 }
 
+// The last part behind a reference: an integer, or the characters of a string.
+fn put_last(out: &mut [u8], at: usize, last: Last, tag: Record) -> usize
+    requires { ⌜ Held last tag × (at + 60 ≤ length (now out)) ⌝ }
+    ensures { λ r. ⌜ Puts (lastText last tag) at (now (out .entry)) r (now (out .exit)) ⌝ }
+{
+    match last {
+        Last::Integer(_) => put_integer(out, at, tag.serial),
+        Last::String(_) => alphabet::write(&tag.characters, tag.count, out, at),
+    }
+}
+
+// The filter, the company prefix, and what follows it.
+fn put_body(out: &mut [u8], at: usize, body: Body, tag: Record) -> usize
+    requires { ⌜ Company tag × HeldBehind body tag × (at + 87 ≤ length (now out)) ⌝ }
+    ensures { λ r. ⌜ Puts (bodyText body tag) at (now (out .entry)) r (now (out .exit)) ⌝ }
+{
+    let p = put_company(out, at, tag);
+    match body {
+        Body::Then(table, last) => {
+            let q = put_reference(out, p, table, tag);
+            let r = put_byte(out, q, b'.');
+            put_last(out, r, last, tag)
+        }
+        Body::Zeros(table, _) => put_reference(out, p, table, tag),
+        Body::E => put_integer(out, p, tag.serial),
+    }
+}
+
 // Writes the text of the tag from the output's start on, and returns its length.
 pub fn write(tag: Record, out: &mut [u8]) -> usize
-    requires { ⌜ 160 ≤ length (now out) ⌝ }
+    requires { ⌜ textRoom ≤ length (now out) ⌝ }
     requires { ⌜ HasTag tag ⌝ }
     ensures { λ n. ⌜ Writes textOf tag (now (out .entry)) n (now (out .exit)) ⌝ }
 {
-    let at = put_start(out, tag.scheme);
-    let line = lines::about(tag.scheme);
-    let parts = line.parts;
+    let s = tag.scheme;
+    let at = put_start(out, s);
+    let parts = about(s).parts;
     match parts {
-        Parts::Integer(table, _) => {
-            let p = put_table(out, at, table, tag);
-            let q = put_byte(out, p, b'.');
-            put_integer(out, q, tag.serial)
-        }
-        Parts::String(table, _) => {
-            let p = put_table(out, at, table, tag);
-            let q = put_byte(out, p, b'.');
-            alphabet::write(&tag.characters, tag.count, out, q)
-        }
-        Parts::Zeros(table, _) => put_table(out, at, table, tag),
-        Parts::Asset => {
-            let p = put_company(out, at, tag);
-            put_integer(out, p, tag.serial)
-        }
+        Parts::F(body) => put_body(out, at, body, tag),
         Parts::Integers(_, _, _) => put_integers(out, at, tag),
     }
 }

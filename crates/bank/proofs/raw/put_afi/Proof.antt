@@ -1,40 +1,44 @@
--- The toggle, the lowest bit of the first byte, says whether the second byte is written.
-use mathlib.Core.Path.{sym}
+-- The toggle says whether the AFI is written.
+use mathlib.Core.Path.{sym, ap, _∙_}
+use mathlib.Core.List.{[], _∷_, _++_}
 use native.Mathlib.Omega.{arith}
 use native.Mathlib.Nat.{add-zero}
-use lib.ListN.{take, drop}
+use denote.Ref.{now}
 use borrow.Author.Needs.{needs}
 use Rattle.numeral.proofs.Splices.{splice-nil}
-use Rattle.digits.proofs.Texts.{length-hex}
+use Rattle.rules.specs.Bytes.{bytes, hexText}
+use Rattle.rules.proofs.BankReads.{at-lt}
 use Rattle.bank.proofs.RawTexts.{no-afi, some-afi}
 use Rattle.bank.proofs.raw.put_afi.Statement.{statement}
 use Rattle.bank.proofs.raw.put_afi.Tie as tie
 
 without : tie.Need-returns
 without c =
-    let known = c .before .before in
-    let s = known .before .before in
-    rw (no-afi (s .args .bank .now) (s .pre .0) (known .shared-slice-known .given 0 .fits) (c .if1 .taken))
-    (sym (add-zero (s .args .at)), sym (splice-nil (s .args .out .now) (s .args .at)))
+    let read = c .before in
+    let s = read .before .before .before in
+    rw (no-afi (now (s .args .bank)) (sym (read .field-at .ensures) ∙ c .if1 .taken))
+    (record { end = sym (add-zero (s .args .at)); bytes = sym (splice-nil (s .args .out .now) (s .args .at)) })
+
+byte : tie.Need-cast-t8
+byte c = omega (arith, c .field-at2 .ensures, at-lt (now (c .before .before .before .before .before .args .bank)) 0x18 8)
 
 with : tie.Need-returns-2
 with c =
-    let put = c .before .before .put-field .ensures in
-    let test = c .before .before .before .before .before in
-    let known = test .before .before in
-    let s = known .before .before in
-    let b = s .args .bank .now in
-    rw (some-afi b (s .pre .0) (known .shared-slice-known .given 0 .fits) (known .shared-slice-known .given 1 .fits) (test .if1 .left))
-    (omega (arith, put .0, length-hex (take 1 (drop 1 b))), put .1)
+    let put = c .before .before in
+    let second = put .before .before .before in
+    let test = second .before in
+    let read = test .before in
+    let b = now (read .before .before .before .args .bank) in
+    rw (some-afi b (λ e. test .if1 .left (read .field-at .ensures ∙ e)), ← second .field-at2 .ensures) (put .put-field .ensures)
 
 pub put-afi-spec : {M : Type 1} → statement M
 put-afi-spec =
     tie.close
     (tie.spec
-    (λ c. search needs)
+    (λ c κs. search needs)
     without
-    (λ c. search needs)
-    (λ c. search needs)
+    (λ c κs. search needs)
+    byte
     (λ c. search needs)
     (λ c κs. search needs)
     (λ c. search needs)

@@ -1,8 +1,9 @@
 -- Two characters are stored, and the digits behind them.
-use mathlib.Core.Path.{refl, _∙_}
+use mathlib.Core.Path.{_∙_}
 use native.Mathlib.Omega.{arith}
 use lib.ListN.{length-set}
 use borrow.Author.Needs.{needs}
+use Rattle.digits.proofs.Texts.{length-hex}
 use Rattle.bank.proofs.RawTexts.{field-is}
 use Rattle.bank.proofs.raw.put_field.Statement.{statement}
 use Rattle.bank.proofs.raw.put_field.Tie as tie
@@ -13,7 +14,7 @@ same-length c = c .before .before .put-hex .kept .0 ∙ simp length-set
 returns : tie.Need-returns
 returns c =
     let s = c .before .before .before .before .before .before in
-    (refl, c .before .before .put-hex .ensures ∙ field-is (s .args .out .now) (s .args .at) (s .args .src .now) (s .pre))
+    record { end = omega (arith, length-hex (s .args .src .now)); bytes = c .before .before .put-hex .ensures ∙ field-is (s .args .out .now) (s .args .at) (s .args .src .now) (s .pre) }
 
 pub put-field-spec : {M : Type 1} → statement M
 put-field-spec =

@@ -1,39 +1,30 @@
--- Each early return is the refusal of its rule, by the tests that led there; past them all the control word is in order.
-use Prim.Native.Nat.{_<_}
-use native.Mathlib.Omega.{arith}
+-- The control word is refused by one of its rules, or the code is read.
+use mathlib.Core.Path.{_≡_}
 use borrow.Author.Needs.{needs}
 use denote.Ref.{now}
-use Rattle.rules.proofs.BankReads.{at-lt}
-use Rattle.bank.proofs.Stages.{no-bytes, few-bytes, no-words, toggled, control-bits, attribute-bits}
+use Rattle.rules.specs.Answers.{refused}
+use Rattle.rules.specs.BankNumbers.{controlIn, tagOfBank}
+use Rattle.rules.proofs.BankReads.{control-reads}
 use Rattle.bank.proofs.Answers.{refuses}
+use Rattle.bank.proofs.Controls.{is-refused, is-taken}
 use Rattle.bank.proofs.reading.read.Statement.{statement}
 use Rattle.bank.proofs.reading.read.Tie as tie
 
--- the word count has five bits
-few : (c : tie.After-field-at) → c .field-at .result < 32
-few c = rw (c .field-at .ensures) (at-lt (now (c .before .before .before .args .bank)) 0x10 5)
+control-refused : tie.Need-returns
+unfolding tagOfBank
+control-refused c =
+    let w = c .before .before in
+    let b = now (w .before .before .args .bank) in
+    let n = w .clean .result .number in
+    let e : controlIn b ≡ refused n = is-refused (controlIn b) (w .clean .result) (w .clean .ensures) (c .before .if1 .taken) in
+    let t : tagOfBank b ≡ refused n = rw e in
+    refuses (c .refused .ensures) t
+
+coded-requires : tie.Need-coded-requires
+coded-requires c κs =
+    let w = c .before in
+    let b = now (w .before .before .args .bank) in
+    is-taken _ _ (controlIn b) (control-reads b) (w .clean .result) (w .clean .ensures) (c .if1 .left)
 
 pub read-spec : {M : Type 1} → statement M
-read-spec =
-    tie.close
-    (tie.spec
-    (λ c κs. search needs)
-    (λ c. refuses (c .refused .ensures) (no-bytes _ (c .before .if1 .taken)))
-    (λ c κs. search needs)
-    (λ c. omega (arith, few c))
-    (λ c. omega (arith, few c))
-    (λ c κs. search needs)
-    (λ c. refuses (c .refused2 .ensures) (few-bytes _ (search needs) (search needs)))
-    (λ c κs. search needs)
-    (λ c. refuses (c .refused3 .ensures) (no-words _ (search needs) (search needs)))
-    (λ c κs. search needs)
-    (λ c κs. search needs)
-    (λ c. refuses (c .refused4 .ensures) (toggled _ (search needs) (search needs) (search needs)))
-    (λ c κs. search needs)
-    (λ c κs. search needs)
-    (λ c. refuses (c .refused5 .ensures) (control-bits _ (search needs) (search needs) (search needs) (search needs)))
-    (λ c κs. search needs)
-    (λ c κs. search needs)
-    (λ c. refuses (c .refused6 .ensures) (attribute-bits _ (search needs) (search needs) (search needs) (search needs) (search needs)))
-    (λ c κs. search needs)
-    (λ c. search needs))
+read-spec = tie.close (tie.spec (λ c κs. search needs) (λ c κs. search needs) control-refused coded-requires (λ c. search needs))

@@ -1,30 +1,60 @@
--- The six bits of the filter and the partition value wait, and the row's bits of the prefix follow.
+-- The filter and the partition value are six bits, and the row's bits of the prefix follow.
+use Prim.Native.Nat.{_+_, _*_, _<_}
+use mathlib.Core.Path.{_≡_, ap, ap₂, _∙_}
+use mathlib.Core.List.{_++_}
 use native.Mathlib.Omega.{arith}
+use lib.Dec.{lit≤}
 use borrow.Author.Needs.{needs}
-use Rattle.bank.proofs.PackedRows.{row-lt, takes-prefix, company-is}
+use Rattle.numeral.specs.Numeral.{numeral}
+use Rattle.numeral.proofs.Values.{length-numeral}
+use Rattle.rules.specs.Schemes.{prefixBits, rowAt, rowOf}
+use Rattle.bank.proofs.PackedRows.{company-row, company-narrow, prefix-lt, company-is}
+use Rattle.bank.proofs.Rooms.{takes, left, same-bits, then}
 use Rattle.bank.proofs.writing.put_company.Statement.{statement}
 use Rattle.bank.proofs.writing.put_company.Tie as tie
 
 prefix-requires : tie.Need-prefix-requires
-prefix-requires c κs = rw (c .by-digits .ensures) (row-lt (c .before .before .pre .1))
+prefix-requires c κs = rw (c .by-digits .ensures) (company-row (c .before .before .pre .1))
 
-add-six : tie.Need-add-t8
-add-six c =
-    let s = c .before .before .before .before in
-    omega (arith, c .before .before .by-digits .ensures, row-lt (s .pre .1))
+-- the bits of the prefix, and the six before it
+width : (c : tie.After-prefix) → c .prefix .result .bits ≡ prefixBits (rowOf (c .before .before .before .args .tag .digits))
+width c = ap (λ k. k .bits) (c .prefix .ensures) ∙ ap (λ p. prefixBits (rowAt p)) (c .before .by-digits .ensures)
 
-push-requires : tie.Need-push-requires
-push-requires c κs =
-    let s = c .before .before .before .before .before in
-    rw (c .before .before .prefix .ensures, c .before .before .before .by-digits .ensures) (takes-prefix (s .pre .1) (search needs))
+six : (c : tie.After-by-digits) → c .before .before .args .tag .filter * 8 + c .by-digits .result < 64
+six c = let s = c .before .before in omega (arith, c .by-digits .ensures, company-row (s .pre .1), s .pre .1 .filter)
+
+push-six : tie.Need-push-requires
+push-six c κs =
+    let p = c .before .before .before in
+    takes (p .before .before .pre .0) 6 _ (lit≤ tt) (lit≤ tt) (six p)
+
+push-prefix : tie.Need-push-requires-2
+push-prefix c κs =
+    let six = c .before .before .before in
+    let cell = six .before .before .before in
+    let s = cell .before .before .before in
+    rw (width cell)
+    (takes (left (s .args .s) _ (six .push .ensures) {m = 40} (s .pre .0) (rw length-numeral (lit≤ tt))) (prefixBits (rowOf (s .args .tag .digits))) (s .args .tag .prefix) (omega (arith, company-narrow (s .pre .1))) (company-narrow (s .pre .1)) (prefix-lt (s .pre .1)))
 
 returns : tie.Need-returns
 returns c =
     let p = c .before .before in
-    let cell = p .before .before .before in
-    rw (← company-is (cell .before .before .before .pre .1), ← cell .before .by-digits .ensures) (rw (cell .prefix .ensures) at (p .push .ensures))
+    let six = p .before .before .before .before in
+    let cell = six .before .before .before in
+    let s = cell .before .before .before in
+    let tag = s .args .tag in
+    let bits = ap₂ (λ v w. numeral 2 6 (tag .filter * 8 + v) ++ numeral 2 w (tag .prefix)) (cell .before .by-digits .ensures) (width cell) in
+    same-bits (s .args .s) _ (then (s .args .s) _ (six .push .ensures) _ (p .push2 .ensures)) _ (bits ∙ company-is (s .pre .1))
 
 pub put-company-spec : {M : Type 1} → statement M
 put-company-spec =
     tie.close
-    (tie.spec (λ c κs. search needs) prefix-requires (λ c. search needs) add-six push-requires (λ c. search needs) returns)
+    (tie.spec
+    (λ c κs. search needs)
+    prefix-requires
+    (λ c. search needs)
+    (λ c. omega (arith, six (c .before .before .before)))
+    push-six
+    push-prefix
+    (λ c. search needs)
+    returns)

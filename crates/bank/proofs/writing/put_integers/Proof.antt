@@ -1,49 +1,40 @@
 -- Each integer goes on where the one before it ends.
-use mathlib.Core.List.{_++_, append-assoc}
 use native.Mathlib.Omega.{arith}
-use lib.ListN.{length-append}
-use denote.Ref.{now}
 use borrow.Author.Needs.{needs}
-use Rattle.numeral.specs.Numeral.{numeral}
-use Rattle.numeral.proofs.Values.{length-numeral, numeral-nil}
-use Rattle.bits.specs.Streams.{Streamed}
-use Rattle.bits.proofs.Streams.{takes, continued}
+use Rattle.numeral.proofs.Values.{length-numeral}
+use Rattle.bank.proofs.Rooms.{takes, left, then}
 use Rattle.bank.proofs.writing.put_integers.Statement.{statement}
 use Rattle.bank.proofs.writing.put_integers.Tie as tie
 
--- the first, from the place where it is written
-abbrev start : tie.After-push → tie.Start
-start c = c .before .before .before
-
-first : (c : tie.After-push) → let s = start c .args in
-    Streamed (now (s .out)) 3 (numeral 2 (s .a) (s .tag .prefix)) (c .push .last .0) (c .push .result)
-first c = rw (numeral-nil 2 0) at (c .push .ensures)
+push-first : tie.Need-push-requires
+push-first c κs =
+    let s = c .before .before in
+    let (a, _, _) = s .pre .1 in
+    takes (s .pre .0) _ _ (a .narrow) (omega (arith, a .narrow)) (a .small)
 
 push-second : tie.Need-push-requires-2
 push-second c κs =
-    let p = c .before .before .before in
-    let s = start p in
+    let first = c .before .before .before in
+    let s = first .before .before .before in
     let (a, b, _) = s .pre .1 in
-    takes (first p) _ _ (b .narrow) (b .small) (rw length-numeral (omega arith))
-
--- the second
-abbrev past-first : tie.After-push2 → tie.After-push
-past-first c = c .before .before .before .before
-
-second : (c : tie.After-push2) → let s = start (past-first c) .args in
-    Streamed (now (s .out)) 3 (numeral 2 (s .a) (s .tag .prefix) ++ numeral 2 (s .b) (s .tag .reference)) (c .push2 .last .0) (c .push2 .result)
-second c = continued (first (past-first c)) _ (c .push2 .ensures)
+    takes (left (s .args .s) _ (first .push .ensures) {m = 114} (s .pre .0) (rw length-numeral (omega (arith, a .narrow)))) _ _ (b .narrow) (omega (arith, b .narrow)) (b .small)
 
 push-third : tie.Need-push-requires-3
 push-third c κs =
-    let p = c .before .before .before in
-    let s = start (past-first p) in
+    let second = c .before .before .before in
+    let first = second .before .before .before .before in
+    let s = first .before .before .before in
     let (a, b, d) = s .pre .1 in
-    takes (second p) _ _ (d .narrow) (d .small) (rw (length-append, length-numeral, length-numeral) (omega (arith, s .pre .0, a .narrow, b .narrow, d .narrow)))
+    let room = left (s .args .s) _ (first .push .ensures) {m = 114} (s .pre .0) (rw length-numeral (omega (arith, a .narrow))) in
+    takes (left (first .push .result) _ (second .push2 .ensures) {m = 57} room (rw length-numeral (omega (arith, b .narrow)))) _ _ (d .narrow) (d .narrow) (d .small)
 
 returns : tie.Need-returns
-returns c = let p = c .before .before in rw append-assoc at (continued (second (p .before .before .before .before)) _ (p .push3 .ensures))
+returns c =
+    let third = c .before .before in
+    let second = third .before .before .before .before in
+    let first = second .before .before .before .before in
+    let s = first .before .before .before in
+    then (s .args .s) _ (first .push .ensures) _ (then (first .push .result) _ (second .push2 .ensures) _ (third .push3 .ensures))
 
 pub put-integers-spec : {M : Type 1} → statement M
-put-integers-spec =
-    tie.close (tie.spec (λ c κs. search needs) push-second push-third (λ c. search needs) returns)
+put-integers-spec = tie.close (tie.spec push-first push-second push-third (λ c. search needs) returns)

@@ -16,21 +16,21 @@ abbrev μ-loop : tie.MeasureT-loop
 μ-loop out₀ k characters end₀ i₀ out end i = k - i
 
 -- the next ones are among the k
-inside : (c : tie.After-next Inv-loop μ-loop) → c .before .before .loop .i + c .next .result ≤ c .before .before .before .before .args .k
+inside : (c : tie.After-least Inv-loop μ-loop) → c .before .before .loop .i + c .least .result ≤ c .before .before .before .before .args .k
 inside c = search needs
 
-among : (c : tie.After-next Inv-loop μ-loop) → c .before .before .loop .i + c .next .result ≤ length (c .before .before .before .before .args .t3)
-among c = let s = c .before .before .before .before in omega (arith, inside c, s .good .1 .1 .0, s .pre .most)
+among : (c : tie.After-least Inv-loop μ-loop) → c .before .before .loop .i + c .least .result ≤ length (c .before .before .before .before .args .t3)
+among c = let s = c .before .before .before .before in omega (arith, inside c, s .good .1 .1 .0, s .pre .2)
 
 loop-holds : tie.Need-loop-holds Inv-loop μ-loop
-loop-holds c = let s = c .before in (search needs, none-yet (s .args .out .now) (s .pre))
+loop-holds c = let s = c .before in (search needs, none-yet (s .args .out .now) (s .args .t3) (s .pre .0) (s .pre .1) (s .pre .2))
 
 push-requires : tie.Need-push-requires Inv-loop μ-loop
 push-requires c κs =
     let n = c .before .before .before in
     let s = n .before .before .before .before in
     let v = n .before .before .loop in
-    rw (c .joined .ensures) (takes-next (s .args .out .now) (s .pre) (v .i) (n .next .result) (inside n) (search needs) (among n) (v .inv .1))
+    rw (c .joined .ensures) (takes-next (s .args .out .now) (s .args .t3) (s .pre .0) (s .pre .1) (s .pre .2) (v .i) (n .least .result) (inside n) (search needs) (among n) (v .inv .1))
 
 loop-again : tie.Need-loop-again Inv-loop μ-loop
 loop-again c =
@@ -39,7 +39,7 @@ loop-again c =
     let n = j .before .before .before in
     let s = n .before .before .before .before in
     let v = n .before .before .loop in
-    (search needs, some-more (s .args .out .now) (s .pre) (v .i) (n .next .result) (inside n) (search needs) (among n) (v .inv .1) (rw (j .joined .ensures) at (p .push .ensures)))
+    (search needs, some-more (s .args .out .now) (s .args .t3) (s .pre .0) (s .pre .1) (s .pre .2) (v .i) (n .least .result) (inside n) (search needs) (among n) (v .inv .1) (rw (j .joined .ensures) at (p .push .ensures)))
 
 same-length : tie.Need-same-length Inv-loop μ-loop
 same-length c = kept (c .before .loop .inv .1 .written)
@@ -61,7 +61,7 @@ put-string-spec =
     (λ c κs. search needs)
     (λ c. search needs)
     (λ c. search needs)
-    (λ c κs. let n = c .before .before in (search needs, among n, n .before .before .before .before .pre .groups))
+    (λ c κs. let n = c .before .before in (search needs, among n, n .before .before .before .before .pre .1))
     push-requires
     (λ c. search needs)
     (λ c. search needs)

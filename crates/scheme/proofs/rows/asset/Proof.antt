@@ -1,15 +1,14 @@
 -- `asset` meets its contract: its array is the column of table E.
 use mathlib.Core.Path.{refl}
 use borrow.Author.Needs.{needs}
-use Rattle.rules.specs.Schemes.{rows}
-use Rattle.scheme.specs.Rows.{assetOf}
+use Rattle.rules.specs.Schemes.{rows, assetBits}
 use Rattle.scheme.proofs.Columns.{column}
 use Rattle.scheme.proofs.rows.asset.Statement.{statement}
 use Rattle.scheme.proofs.rows.asset.Tie as tie
 
 returns : tie.Need-returns
 unfolding rows
-returns c = column assetOf _ (c .args .p) refl refl
+returns c = column assetBits _ (c .args .p) refl refl
 
 pub asset-spec : {M : Type 1} → statement M
 asset-spec = tie.close (tie.spec (λ c. search needs) (λ c. search needs) returns)

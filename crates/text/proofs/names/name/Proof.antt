@@ -11,10 +11,12 @@ use borrow.Author.Needs.{needs}
 use borrow.Author.Tests.{not-true, not-false}
 use Rattle.numeral.proofs.Values.{digits-of, digits-drop}
 use Rattle.rules.specs.Bytes.{colon}
-use Rattle.text.specs.Names.{Tailed, keyedBy}
+use Rattle.text.specs.Names.{keyedBy}
 use Rattle.text.specs.declared.names.Keyed.the-variants.{By}
 use Rattle.text.proofs.Keys.{nothing, no-tail, no-key, other-letter, other-length, is-named}
 use Rattle.text.proofs.Runs.{run-shorter}
+use Rattle.text.proofs.Tails.{Tailed}
+use Rattle.text.proofs.Tails.{tailed as tail-is}
 use Rattle.text.proofs.names.name.Statement.{statement}
 use Rattle.text.proofs.names.name.Tie as tie
 
@@ -33,7 +35,9 @@ module _ (c : tie.After-tail-at) where
 
   tailed : Tailed (drop 1 (drop at text)) (c .tail-at .result)
   unfolding at text
-  tailed = rw (drop-drop 1 (c .before .before .before .args .at) (c .before .before .before .args .text .now)) (c .tail-at .ensures)
+  tailed =
+      let x = c .before .before .before .args in
+      rw (drop-drop 1 (x .at) (x .text .now)) (tail-is (drop (x .at + 1) (x .text .now)) (c .tail-at .result) (c .tail-at .ensures))
 
   first : getD (drop at text) 0 0 ≡ getD text at 0
   unfolding at text

@@ -5,18 +5,19 @@ use borrow.Author.Needs.{needs}
 use lib.ListN.{drop}
 use Rattle.rules.specs.Schemes.{integer}
 use Rattle.rules.specs.TextNumbers.{partsIn}
-use Rattle.scheme.specs.declared.lines.Parts.the-variants.{Integers}
-use Rattle.scheme.specs.Lines.{Narrow}
-use Rattle.scheme.proofs.Widths.{parts-same, parts-narrow}
+use Rattle.rules.specs.declared.Last.the-variants.{Integer as LastInteger}
+use Rattle.rules.specs.declared.Parts.the-variants.{Integers}
+use Rattle.scheme.specs.Outlines.{Narrow}
+use Rattle.scheme.proofs.Widths.{parts-narrow}
 use Rattle.text.specs.declared.parts.Form.the-variants.{Integer}
-use Rattle.text.specs.Reading.{lastOf, referred}
+use Rattle.text.specs.Reading.{withLast, referred}
 use Rattle.text.proofs.Found.{Standing, wrong, stands}
 use Rattle.text.proofs.Whole.{head, no-integer, with-integer}
 use Rattle.text.proofs.reading.general.Statement.{statement}
 use Rattle.text.proofs.reading.general.Tie as tie
 
 narrow : (c : tie.Start) → let x = c .args in Narrow (Integers (x .a) (x .b) (x .c))
-narrow c = let x = c .args in parts-narrow (x .s) (Integers (x .a) (x .b) (x .c)) (c .pre .1)
+narrow c = rw (c .pre .1) at (parts-narrow (c .args .s))
 
 few : tie.Need-part-at-requires
 few c κs = let s = c .before in (s .pre .0, omega (arith, narrow s))
@@ -27,7 +28,7 @@ returns c =
     let s = p .before .before in
     let x = s .args in
     c .refused .ensures
-    ∙ no-integer (x .s) (x .a) (x .b) (x .c) (sym (parts-same (x .s) (Integers (x .a) (x .b) (x .c)) (s .pre .1))) (drop (x .at) (x .text .now)) (wrong 5 (Integer (x .a)) (x .text .now) (x .at) (sym (c .before .enum-told .given .1) ∙ p .part-at .ensures))
+    ∙ no-integer (x .s) (x .a) (x .b) (x .c) (s .pre .1) (drop (x .at) (x .text .now)) (wrong 5 (Integer (x .a)) (x .text .now) (x .at) (sym (c .before .enum-told .given .1) ∙ p .part-at .ensures))
 
 -- the first integer, from the place where its names are
 first : (c : tie.After-prefix) → let x = c .before .before .before .before .args in
@@ -49,8 +50,8 @@ returns-2 c =
     let x = s .args in
     let f = first v in
     let next = v .prefix .given .0 .1 .1 .0 in
-    c .with-integer .ensures ∙ (λ i. lastOf (head (x .s) 0 (f .value-is i) 0) (integer (x .c)) (partsIn (referred (integer (x .b)) (integer (x .c))) (drop next (x .text .now))))
-    ∙ with-integer (x .s) (x .a) (x .b) (x .c) (sym (parts-same (x .s) (Integers (x .a) (x .b) (x .c)) (s .pre .1))) (drop (x .at) (x .text .now)) (f .part) (drop next (x .text .now)) (f .read) (f .rest)
+    c .with-integer .ensures ∙ (λ i. withLast (head (x .s) 0 (f .value-is i) 0) (LastInteger (x .c)) (partsIn (referred (integer (x .b)) (integer (x .c))) (drop next (x .text .now))))
+    ∙ with-integer (x .s) (x .a) (x .b) (x .c) (s .pre .1) (drop (x .at) (x .text .now)) (f .part) (drop next (x .text .now)) (f .read) (f .rest)
 
 pub general-spec : {M : Type 1} → statement M
 general-spec =

@@ -1,14 +1,15 @@
--- `partitioned` meets its contract: the filter and the company prefix stand before their dots, and the rest is `body`.
+-- `partitioned` meets its contract: the filter and the company prefix stand before their dots, and the rest is `behind_prefix`.
 use Prim.Native.Nat.{_≤_}
 use mathlib.Core.Path.{sym, _∙_}
 use borrow.Author.Needs.{needs}
 use lib.Dec.{leb, leb→le}
 use lib.ListN.{length, drop}
+use Rattle.rules.specs.Grammar.{bodyLayout}
 use Rattle.rules.specs.TextNumbers.{partsIn}
 use Rattle.rules.proofs.Tests.{both}
-use Rattle.scheme.proofs.Widths.{parts-same, parts-narrow}
+use Rattle.scheme.proofs.Widths.{parts-narrow}
 use Rattle.text.specs.declared.parts.Form.the-variants.{Prefix, Integer}
-use Rattle.text.specs.Reading.{restLayout, restOf}
+use Rattle.text.specs.Reading.{behindPrefix}
 use Rattle.text.proofs.Found.{Standing, wrong, stands}
 use Rattle.text.proofs.Whole.{head, no-filter, no-prefix, with-prefix}
 use Rattle.text.proofs.reading.partitioned.Statement.{statement}
@@ -19,9 +20,8 @@ returns c =
     let p = c .before .before .before in
     let s = p .before .before in
     let x = s .args in
-    let (body, e) = s .pre .2 in
     c .refused .ensures
-    ∙ no-filter (x .s) body (sym (parts-same (x .s) (x .p) (s .pre .1)) ∙ e) (drop (x .at) (x .text .now)) (wrong 4 (Integer 3) (x .text .now) (x .at) (sym (c .before .enum-told .given .1) ∙ p .part-at .ensures))
+    ∙ no-filter (x .s) (x .body) (s .pre .1) (drop (x .at) (x .text .now)) (wrong 4 (Integer 3) (x .text .now) (x .at) (sym (c .before .enum-told .given .1) ∙ p .part-at .ensures))
 
 -- the filter and the company prefix, from the places where their names are
 filter : (c : tie.After-filter) → let x = c .before .before .before .before .args in
@@ -47,11 +47,10 @@ returns-2 c =
     let v = p .before .before in
     let s = v .before .before .before .before in
     let x = s .args in
-    let (body, e) = s .pre .2 in
     let f = filter v in
     let next = v .filter .given .0 .1 .1 .0 in
     c .refused2 .ensures
-    ∙ no-prefix (x .s) body (sym (parts-same (x .s) (x .p) (s .pre .1)) ∙ e) (drop (x .at) (x .text .now)) (f .part) (drop next (x .text .now)) (f .read) (f .rest)
+    ∙ no-prefix (x .s) (x .body) (s .pre .1) (drop (x .at) (x .text .now)) (f .part) (drop next (x .text .now)) (f .read) (f .rest)
     (wrong 5 Prefix (x .text .now) next (sym (c .before .enum-told2 .given .1) ∙ p .part-at2 .ensures))
 
 -- six to twelve digits
@@ -62,11 +61,11 @@ picked c =
     let (l, u) = both (leb 6 n) (leb n 12) (q .shape) in
     rw (q .digits-are) (leb→le 6 n l, leb→le n 12 u)
 
-inside : tie.Need-body-requires
+inside : tie.Need-behind-prefix-requires
 inside c κs =
     let v = c .before in
     let s = v .before .before .before .before .before .before .before .before in
-    (prefix v .within, parts-narrow (s .args .s) (s .args .p) (s .pre .1), λ t. picked v)
+    (prefix v .within, rw (s .pre .1) at (parts-narrow (s .args .s)), picked v .0, picked v .1)
 
 returns-3 : tie.Need-returns-3
 returns-3 c =
@@ -74,14 +73,13 @@ returns-3 c =
     let v = w .before .before .before .before in
     let s = v .before .before .before .before in
     let x = s .args in
-    let (body, e) = s .pre .2 in
     let f = filter v in
     let q = prefix w in
     let text = x .text .now in
     let next = w .prefix .given .0 .1 .1 .0 in
-    c .body .ensures
-    ∙ (λ i. restOf (head (x .s) (f .value-is i) (q .value-is i) (q .digits-are i)) (e i) (partsIn (restLayout (e i) (q .digits-are i)) (drop next text)))
-    ∙ with-prefix (x .s) body (sym (parts-same (x .s) (x .p) (s .pre .1)) ∙ e) (drop (x .at) text) (f .part) (drop (v .filter .given .0 .1 .1 .0) text) (f .read) (f .rest) (q .part) (drop next text) (q .read) (q .rest)
+    c .behind-prefix .ensures
+    ∙ (λ i. behindPrefix (head (x .s) (f .value-is i) (q .value-is i) (q .digits-are i)) (x .body) (partsIn (bodyLayout (x .body) (q .digits-are i)) (drop next text)))
+    ∙ with-prefix (x .s) (x .body) (s .pre .1) (drop (x .at) text) (f .part) (drop (v .filter .given .0 .1 .1 .0) text) (f .read) (f .rest) (q .part) (drop next text) (q .read) (q .rest)
 
 pub partitioned-spec : {M : Type 1} → statement M
 partitioned-spec =

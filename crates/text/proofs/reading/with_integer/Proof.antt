@@ -2,7 +2,7 @@
 use mathlib.Core.Path.{sym, _∙_}
 use lib.ListN.{drop}
 use borrow.Author.Needs.{needs}
-use Rattle.rules.specs.Schemes.{integer}
+use Rattle.rules.specs.declared.Last.the-variants.{Integer}
 use Rattle.text.specs.Parts.{formOf}
 use Rattle.text.proofs.Found.{Standing, wrong, stands}
 use Rattle.text.proofs.Lasts.{no-reference, integer-refused, integer-taken}
@@ -14,7 +14,7 @@ returns c =
     let p = c .before .before .before in
     let x = p .before .before .args in
     c .refused .ensures
-    ∙ no-reference (x .head) (formOf (x .reference)) (integer (x .bits)) (drop (x .at) (x .text .now)) (wrong 6 (x .reference) (x .text .now) (x .at) (sym (c .before .enum-told .given .1) ∙ p .part-at .ensures))
+    ∙ no-reference (x .head) (formOf (x .reference)) (Integer (x .bits)) (drop (x .at) (x .text .now)) (wrong 6 (x .reference) (x .text .now) (x .at) (sym (c .before .enum-told .given .1) ∙ p .part-at .ensures))
 
 -- the reference, from the place where its names are
 reference : (c : tie.After-value) → let x = c .before .before .before .before .args in
@@ -24,7 +24,7 @@ reference c =
     let x = p .before .before .args in
     stands 6 (x .reference) (x .text .now) (x .at) (c .value .given .0 .0) (c .value .given .0 .1 .0) (c .value .given .0 .1 .1 .0) (sym (c .value .given .1) ∙ p .part-at .ensures)
 
-inside : tie.Need-last-integer-requires
+inside : tie.Need-integer-to-end-requires
 inside c κs = (reference (c .before) .within, c .before .before .before .before .before .pre .2)
 
 returns-2 : tie.Need-returns-2
@@ -33,7 +33,7 @@ returns-2 c =
     let l = n .before .before in
     let v = l .before .before in
     let x = v .before .before .before .before .args in
-    c .tagged .ensures ∙ integer-taken (x .head) (x .reference) (x .bits) (x .text .now) (x .at) _ _ _ (reference v) (n .serial .given .0 .0) (sym (n .serial .given .1) ∙ l .last-integer .ensures)
+    c .tagged .ensures ∙ integer-taken (x .head) (x .reference) (x .bits) (x .text .now) (x .at) _ _ _ (reference v) (n .serial .given .0 .0) (sym (n .serial .given .1) ∙ l .integer-to-end .ensures)
 
 returns-3 : tie.Need-returns-3
 returns-3 c =
@@ -41,7 +41,7 @@ returns-3 c =
     let l = n .before .before in
     let v = l .before .before in
     let x = v .before .before .before .before .args in
-    c .refused2 .ensures ∙ integer-refused (x .head) (x .reference) (x .bits) (x .text .now) (x .at) _ _ _ (reference v) (n .n .given .0 .0) (sym (n .n .given .1) ∙ l .last-integer .ensures)
+    c .refused2 .ensures ∙ integer-refused (x .head) (x .reference) (x .bits) (x .text .now) (x .at) _ _ _ (reference v) (n .n .given .0 .0) (sym (n .n .given .1) ∙ l .integer-to-end .ensures)
 
 pub with-integer-spec : {M : Type 1} → statement M
 with-integer-spec =

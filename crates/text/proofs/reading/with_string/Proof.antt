@@ -2,7 +2,8 @@
 use mathlib.Core.Path.{sym, _∙_}
 use lib.ListN.{drop}
 use borrow.Author.Needs.{needs}
-use Rattle.rules.specs.Schemes.{digits, string}
+use Rattle.rules.specs.declared.Last.the-variants.{String}
+use Rattle.rules.specs.Schemes.{digits}
 use Rattle.text.specs.declared.parts.Form.the-variants.{Digits}
 use Rattle.text.proofs.Found.{Standing, wrong, stands}
 use Rattle.text.proofs.Lasts.{no-reference, behind-none, behind-long, behind-taken}
@@ -14,7 +15,7 @@ returns c =
     let p = c .before .before .before in
     let x = p .before .before .args in
     c .refused .ensures
-    ∙ no-reference (x .head) (digits 0 (x .reference)) (string (x .bits)) (drop (x .at) (x .text .now)) (wrong 6 (Digits (x .reference)) (x .text .now) (x .at) (sym (c .before .enum-told .given .1) ∙ p .part-at .ensures))
+    ∙ no-reference (x .head) (digits 0 (x .reference)) (String (x .bits)) (drop (x .at) (x .text .now)) (wrong 6 (Digits (x .reference)) (x .text .now) (x .at) (sym (c .before .enum-told .given .1) ∙ p .part-at .ensures))
 
 -- the reference, from the place where its names are
 reference : (c : tie.After-value) → let x = c .before .before .before .before .args in

@@ -1,6 +1,6 @@
 -- One store is a piece of one byte.
 use borrow.Author.Needs.{needs}
-use Rattle.text.proofs.Joins.{byte-put}
+use Rattle.digits.proofs.Joins.{byte-put}
 use Rattle.text.proofs.writing.put_byte.Statement.{statement}
 use Rattle.text.proofs.writing.put_byte.Tie as tie
 

@@ -2,7 +2,7 @@
 use lib.Dec.{lit<}
 use borrow.Author.Needs.{needs}
 use Rattle.numeral.proofs.Shortest.{shortest-small}
-use Rattle.text.proofs.Joins.{join, number-put}
+use Rattle.digits.proofs.Joins.{join, number-put}
 use Rattle.text.proofs.writing.put_company.Statement.{statement}
 use Rattle.text.proofs.writing.put_company.Tie as tie
 

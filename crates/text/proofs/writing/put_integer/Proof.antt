@@ -1,7 +1,7 @@
 -- A word has at most 20 digits.
 use native.Mathlib.Omega.{arith}
 use borrow.Author.Needs.{needs}
-use Rattle.text.proofs.Joins.{integer-put}
+use Rattle.digits.proofs.Joins.{integer-put}
 use Rattle.text.proofs.Rooms.{word-short}
 use Rattle.text.proofs.writing.put_integer.Statement.{statement}
 use Rattle.text.proofs.writing.put_integer.Tie as tie

@@ -1,6 +1,6 @@
 -- Five pieces: three integers, and the dots between them.
 use borrow.Author.Needs.{needs}
-use Rattle.text.proofs.Joins.{join}
+use Rattle.digits.proofs.Joins.{join}
 use Rattle.text.proofs.writing.put_integers.Statement.{statement}
 use Rattle.text.proofs.writing.put_integers.Tie as tie
 

@@ -2,7 +2,7 @@
 use native.Mathlib.Omega.{arith}
 use borrow.Author.Needs.{needs}
 use Rattle.rules.specs.Grammar.{start}
-use Rattle.text.proofs.Joins.{join}
+use Rattle.digits.proofs.Joins.{join}
 use Rattle.text.proofs.Rooms.{label-short}
 use Rattle.text.proofs.writing.put_start.Statement.{statement}
 use Rattle.text.proofs.writing.put_start.Tie as tie

@@ -1,0 +1,25 @@
+-- Each early return is the refusal of its rule, by the tests that led there.
+use mathlib.Core.Path.{_≡_, sym, ap}
+use borrow.Author.Needs.{needs}
+use denote.Ref.{now}
+use Rattle.bank.specs.Controls.{controlOf}
+use Rattle.bank.proofs.Controls.{refuses, no-bytes, few-words, few-bytes, no-words, words-are}
+use Rattle.bank.proofs.control.words.Statement.{statement}
+use Rattle.bank.proofs.control.words.Tie as tie
+
+counted : tie.Need-returns-4
+counted c = sym (ap controlOf (words-are (now (c .before .before .before .before .before .before .args .bank)) (search needs) _ (c .before .before .before .field-at .ensures) (search needs) (c .if3 .left)))
+
+pub words-spec : {M : Type 1} → statement M
+words-spec =
+    tie.close
+    (tie.spec
+    (λ c κs. search needs)
+    (λ c. refuses _ 9 _ (c .refused .ensures) (no-bytes (now (c .before .before .before .args .bank)) (c .before .if1 .taken)))
+    (λ c κs. search needs)
+    (λ c κs. few-words (now (c .before .before .before .args .bank)) (search needs) _ (c .field-at .ensures))
+    (λ c κs. search needs)
+    (λ c. refuses _ 9 _ (c .refused2 .ensures) (few-bytes (now (c .before .before .before .before .before .before .args .bank)) (search needs) _ (c .before .before .before .field-at .ensures) (search needs)))
+    (λ c κs. search needs)
+    (λ c. refuses _ 10 _ (c .refused3 .ensures) (no-words (now (c .before .before .before .before .before .before .before .args .bank)) (search needs) _ (c .before .before .before .before .field-at .ensures) (search needs) (c .before .if3 .taken)))
+    counted)

@@ -1,0 +1,37 @@
+-- What the bit reader takes: the number in some bits of the code, and the code bit behind them.
+use Prim.Native.Nat.{ℕ, _+_, _*_, _≤_}
+use mathlib.Core.List.{List}
+use denote.Ref.{RefT, now}
+use Rattle.rules.specs.Coding.{at}
+use Rattle.scheme.specs.declared.counts.CodeBit.{CodeBit}
+use Rattle.scheme.specs.Counts.{behindOf}
+use Rattle.bank.specs.declared.bitreader.Step.{Step}
+use Rattle.bank.specs.declared.bitreader.BitReader.{BitReader}
+use Rattle.bank.specs.declared.bitreader.Taken.{Taken}
+
+-- the `width` bits from an address on fit a word of 64 bits and lie in so many bytes of a bank, which starts at address 10h; the
+-- address is small, so that no sum of it overflows
+pub record Lies (address width bytes : ℕ) : Type 0 where
+  pub narrow : width ≤ 64
+  pub first : 0x10 ≤ address
+  pub small : address ≤ 0x800
+  pub inside : address + width ≤ 0x10 + 8 * bytes
+
+-- the same of the bits from a code bit on
+abbrev pub LiesInCode : ℕ → ℕ → ℕ → Type 0
+LiesInCode c width bytes = Lies (0x20 + c) width bytes
+
+-- the number in the `width` bits from a code bit on
+abbrev pub codeField : List ℕ → ℕ → ℕ → ℕ
+codeField bank c width = at bank (0x20 + c) width
+
+abbrev pub stepOf : List ℕ → CodeBit → ℕ → Step
+stepOf bank c width = record { value = codeField bank (c .0) width; at = behindOf c width }
+
+-- a reader of a bank that stands at a code bit
+abbrev pub readerOf : RefT (List ℕ) → CodeBit → BitReader
+readerOf bank c = record { bank = bank; at = c }
+
+-- what a reader takes: the number in the next bits, and the same bank behind them
+abbrev pub takenOf : BitReader → ℕ → Taken
+takenOf r width = record { value = codeField (now (r .bank)) (r .at .0) width; rest = record { bank = r .bank; at = behindOf (r .at) width } }

@@ -1,0 +1,8 @@
+-- What a control word says, as the code holds it.
+use Prim.Native.Nat.{ℕ}
+use Rattle.rules.specs.Answers.{Answer, refused, taken}
+use Rattle.bank.specs.declared.control.Control.{Control}
+
+abbrev pub controlOf : Answer ℕ → Control
+controlOf (refused n) = record { number = n; words = 0 }
+controlOf (taken W) = record { number = 0; words = W }

@@ -1,0 +1,82 @@
+// Bits are taken from the bank in order, most significant first (document 01, "The bank"). The decoder reads the control word by its
+// addresses, with `field_at`, and takes the code field by field, with `take`.
+use scheme::counts::BankAddress;
+use scheme::counts::CodeBit;
+ghost use mathlib.Core.Path.{_≡_};
+ghost use lib.ListN.{length};
+ghost use Rattle.rules.specs.Coding.{at};
+ghost use Rattle.bank.specs.BitReaders.{Lies, LiesInCode, stepOf, readerOf, takenOf};
+
+// The number in the `width` bits from a bank address on.
+pub fn field_at(bank: &[u8], a: BankAddress, width: usize) -> u64
+    requires { ⌜ Lies (a .0) width (length (now bank)) ⌝ }
+    ensures { λ r. ⌜ r ≡ at (now (bank .entry)) (a .0) width ⌝ }
+{
+    bits::field(bank, a.place(), width)
+}
+
+// A number that was taken, and the code bit behind its bits.
+pub struct Step {
+    pub value: u64,
+    pub at: CodeBit,
+}
+
+// The number in the `width` bits from a code bit on, and the code bit behind them.
+pub fn step_at(bank: &[u8], c: CodeBit, width: usize) -> Step
+    requires { ⌜ LiesInCode (c .0) width (length (now bank)) ⌝ }
+    ensures { λ r. ⌜ r ≡ stepOf (now (bank .entry)) c width ⌝ }
+{
+    let value = field_at(bank, c.address(), width);
+    Step {
+        value,
+        at: c.behind(width),
+    }
+}
+
+// The bit reader: the bank's slice, and the code bit where it stands.
+pub struct BitReader<'a> {
+    pub bank: &'a [u8],
+    pub at: CodeBit,
+}
+
+// A number that a bit reader took, and the reader behind its bits.
+pub struct Taken<'a> {
+    pub value: u64,
+    pub rest: BitReader<'a>,
+}
+
+impl<'a> BitReader<'a> {
+    // A reader of the bank that stands at a code bit.
+    pub fn new(bank: &'a [u8], at: CodeBit) -> BitReader<'a>
+        ensures { λ r. ⌜ r ≡ readerOf (bank .entry) at ⌝ }
+    {
+        BitReader { bank, at }
+    }
+
+    // Takes the next `width` bits.
+    pub fn take(self, width: usize) -> Taken<'a>
+        requires { ⌜ LiesInCode (self .at .0) width (length (now (self .bank))) ⌝ }
+        ensures { λ t. ⌜ t ≡ takenOf (self .entry) width ⌝ }
+    {
+        let s = step_at(self.bank, self.at, width);
+        Taken {
+            value: s.value,
+            rest: BitReader {
+                bank: self.bank,
+                at: s.at,
+            },
+        }
+    }
+}
+
+// Takes the next `width` bits of the code: the number in them, and the code bit where the decoder goes on.
+pub fn take(bank: &[u8], at: CodeBit, width: usize) -> Step
+    requires { ⌜ LiesInCode (at .0) width (length (now bank)) ⌝ }
+    ensures { λ r. ⌜ r ≡ stepOf (now (bank .entry)) at width ⌝ }
+{
+    let t = BitReader::new(bank, at).take(width);
+    Step {
+        value: t.value,
+        at: t.rest.at,
+    }
+}

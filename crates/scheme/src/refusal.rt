@@ -1,0 +1,40 @@
+// The numbers that document 01 gives to refusals ("Numbers given, and when"), by name. Its table says when each is given.
+pub const OUTPUT_TOO_SHORT: u8 = 1;
+
+// Text to bank.
+pub const START: u8 = 2;
+
+pub const NAME: u8 = 3;
+
+pub const FILTER: u8 = 4;
+
+pub const PREFIX: u8 = 5;
+
+pub const REFERENCE: u8 = 6;
+
+pub const LAST_PART_FORM: u8 = 7;
+
+pub const LAST_PART_SIZE: u8 = 8;
+
+// Bank to text.
+pub const BANK_TOO_SHORT: u8 = 9;
+
+pub const NO_WORDS: u8 = 10;
+
+pub const TOGGLE: u8 = 11;
+
+pub const CONTROL_BITS: u8 = 12;
+
+pub const HEADER: u8 = 13;
+
+pub const WORD_COUNT: u8 = 14;
+
+pub const FILL_BITS: u8 = 15;
+
+pub const PARTITION: u8 = 16;
+
+pub const PREFIX_TOO_LARGE: u8 = 17;
+
+pub const REFERENCE_TOO_LARGE: u8 = 18;
+
+pub const STRING: u8 = 19;
