@@ -21,7 +21,7 @@ use Rattle.rules.proofs.TextReads.{tag-reads}
 use Rattle.rules.proofs.Lengths.{bank-size, text-length}
 use Rattle.codec.specs.Answers.{answered}
 use Rattle.codec.specs.declared.Answer.the-variants.{Written, Refused}
-use Rattle.lines.specs.Replies.{lineB, lineN, ofText}
+use Rattle.lines.specs.Replies.{replyB, replyN, ofText}
 
 -- no refusal has number 0, and nothing that is taken is empty
 abbrev Firm : Answer (List ℕ) → Type 0
@@ -76,15 +76,15 @@ raw-firm b = go (rawOfBank b) (raw-reads b)
 
 module _ (t out e : List ℕ) (n : ℕ) (l : 64 ≤ length out) where
   -- the bank stands at the output's start
-  pub bank-written : answered (Written n) e ≡ textToBank t out → (n ≤ 64) × (n ≡ length (take n e)) × (ofText (tagOfText t) ≡ lineB (take n e))
+  pub bank-written : answered (Written n) e ≡ textToBank t out → (n ≤ 64) × (n ≡ length (take n e)) × (ofText (tagOfText t) ≡ replyB (take n e))
   unfolding textToBank
   bank-written h =
       let (w, a, c, o) = was-written 64 out (tagOfText t >>= λ τ. taken (bankOf τ)) n e (firm bankOf some-bytes (textRules t) (TagText t) (tagOfText t) (tag-reads t)) l h in
       let (τ, i, f) = tag-taken bankOf some-bytes (tagOfText t) w a in
       let p : take n e ≡ w = ap (take n) o ∙ take-at w (drop (length w) out) n (sym c) in
-      (omega (arith, c, ap length f, bank-size τ), c ∙ ap length (sym p), ap ofText i ∙ ap lineB (f ∙ sym p))
+      (omega (arith, c, ap length f, bank-size τ), c ∙ ap length (sym p), ap ofText i ∙ ap replyB (f ∙ sym p))
 
-  pub text-refused : answered (Refused n) e ≡ textToBank t out → ofText (tagOfText t) ≡ lineN n
+  pub text-refused : answered (Refused n) e ≡ textToBank t out → ofText (tagOfText t) ≡ replyN n
   unfolding textToBank
   text-refused h =
       let (a, o) = was-refused 64 out (tagOfText t >>= λ τ. taken (bankOf τ)) n e (firm bankOf some-bytes (textRules t) (TagText t) (tagOfText t) (tag-reads t)) l h in

@@ -16,7 +16,7 @@ use Rattle.numeral.proofs.Shortest.{length-shortest, size-le}
 use Rattle.numeral.proofs.Splices.{splice-one, splice-snoc, splice-after, splice-nil, drop-to-splice, length-splice}
 use Rattle.numeral.proofs.Arithmetic.{lt-or-ge}
 use Rattle.digits.proofs.Texts.{length-text}
-use Rattle.lines.specs.Replies.{space, decimal, lineR}
+use Rattle.lines.specs.Replies.{space, decimal, replyR}
 use Rattle.lines.specs.Lines.{Wrote}
 
 pub splice-front : (l x : List ℕ) → splice l 0 x ≡ x ++ drop (length x) l
@@ -69,7 +69,7 @@ text-behind l l₁ x a h i =
     two-bytes l₁ a space (rw (i, length-splice l 2 x h) (omega arith)) ∙ rw i (before-piece l 2 (a ∷ space ∷ []) x refl (omega arith))
 
 pub raw-behind : (l l₁ l₂ x : List ℕ) (n at : ℕ) → 5 + length x ≤ length l → size 10 n ≡ 2 → l₁ ≡ splice l 5 x → Wrote (code "R" ∷ space ∷ decimal n) l₁ at l₂
-    → set l₂ at space ≡ splice l 0 (lineR n x)
+    → set l₂ at space ≡ splice l 0 (replyR n x)
 raw-behind l l₁ l₂ x n at h two i w =
     let d : length (decimal n) ≡ 2 = decimal-long n ∙ two in
     let a : List ℕ = code "R" ∷ space ∷ decimal n in

@@ -15,7 +15,7 @@ use Rattle.rules.specs.Raw.{rawText, rawOfBank}
 use Rattle.rules.specs.Screen.{screen}
 use Rattle.rules.proofs.Answers.{None}
 use Rattle.rules.proofs.BankReads.{bank-reads, raw-reads}
-use Rattle.lines.specs.Replies.{lineN, lineR, shown}
+use Rattle.lines.specs.Replies.{replyN, replyR, shown}
 
 -- the rules' numbers lie between two
 abbrev pub Between : ℕ → ℕ → List Rule → Type 0
@@ -50,11 +50,11 @@ module _ (b : List ℕ) where
 
   -- 9 and 10 stand before the others
   module _ (n : ℕ) where
-    pub with-raw : 11 ≤ n → n ≤ 19 → shown n (screen [] (rawText b) n) ≡ lineR n (rawText b)
+    pub with-raw : 11 ≤ n → n ≤ 19 → shown n (screen [] (rawText b) n) ≡ replyR n (rawText b)
     unfolding screen rawText
     with-raw l u = rw (ne-eqb n 0 (λ z. omega arith), le-leb 11 n l, le-leb n 19 u)
 
-    pub without-raw : 0 < n → n < 11 → shown n (screen [] (rawText b) n) ≡ lineN n
+    pub without-raw : 0 < n → n < 11 → shown n (screen [] (rawText b) n) ≡ replyN n
     unfolding screen
     without-raw p u = rw (ne-eqb n 0 (λ z. omega arith), lt-leb 11 n u)
 

@@ -16,8 +16,8 @@ use Rattle.rules.specs.TextNumbers.{after}
 use Rattle.rules.proofs.Runs.{without}
 use Rattle.rules.proofs.Tests.{both, and}
 use Rattle.lines.specs.Hex.{isBank}
-use Rattle.lines.specs.Replies.{begun, lineX, replyOf}
-use Rattle.lines.specs.Lines.{feed, printed, outputOf, whole, lastOf, session, joined}
+use Rattle.lines.specs.Replies.{begun, replyX, replyOf}
+use Rattle.lines.specs.Lines.{feed, printed, outputOf, whole, endReply, session, joined}
 use Rattle.lines.proofs.Splits.{Unfed, unfed-append, last-line, no-output, none-ended, first-output, first-ended}
 
 unfed-take : (n : ℕ) (l : List ℕ) → Unfed l → Unfed (take n l)
@@ -71,15 +71,15 @@ halves (suc n) t k = go (λ r. halves n r) (ended-or-not t)
         }
 
 -- more than 200 bytes are neither a tag text nor a bank in hex
-long-line : (l : List ℕ) → 200 < length l → printed l ≡ lineX ++ feed ∷ []
+long-line : (l : List ℕ) → 200 < length l → printed l ≡ replyX ++ feed ∷ []
 unfolding replyOf isBank
 long-line l h = rw (lt-leb (length l) 200 h, lt-leb (length l) 128 (omega arith)) (go (begun (after (bytes "urn:") l)))
   where
-    go : (b : Bool) → cond b lineX lineX ++ feed ∷ [] ≡ lineX ++ feed ∷ []
+    go : (b : Bool) → cond b replyX replyX ++ feed ∷ [] ≡ replyX ++ feed ∷ []
     go true = refl
     go false = refl
 
-long-last : (l : List ℕ) → 200 < length l → lastOf l ≡ printed l
+long-last : (l : List ℕ) → 200 < length l → endReply l ≡ printed l
 long-last [] h = absurd (omega arith)
 long-last (x ∷ l) h = refl
 
@@ -93,12 +93,12 @@ module _ (a b : List ℕ) (h : Unfed a) (k : Unfed b) (m : 200 < length a) (n : 
     where
       go : Ended s ⊎ Unfed s → outputOf (a ++ s) ≡ outputOf (b ++ s)
       go (inl (l, r, u, e)) =
-          let first : (x : List ℕ) → Unfed x → 200 < length x → outputOf (x ++ s) ≡ (lineX ++ feed ∷ []) ++ outputOf r = λ x v w.
+          let first : (x : List ℕ) → Unfed x → 200 < length x → outputOf (x ++ s) ≡ (replyX ++ feed ∷ []) ++ outputOf r = λ x v w.
           ap (λ t. outputOf (x ++ t)) e ∙ ap outputOf (sym (append-assoc x l (feed ∷ r))) ∙ first-output (x ++ l) r (unfed-append x l v u)
           ∙ ap (_++ outputOf r) (long-line (x ++ l) (longer x l w)) in
           first a h m ∙ sym (first b k n)
       go (inr u) =
-          let last : (x : List ℕ) → Unfed x → 200 < length x → outputOf (x ++ s) ≡ lineX ++ feed ∷ [] = λ x v w.
+          let last : (x : List ℕ) → Unfed x → 200 < length x → outputOf (x ++ s) ≡ replyX ++ feed ∷ [] = λ x v w.
           last-line (x ++ s) (unfed-append x s v u) ∙ long-last (x ++ s) (longer x s w) ∙ long-line (x ++ s) (longer x s w) in
           last a h m ∙ sym (last b k n)
 

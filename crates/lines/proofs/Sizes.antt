@@ -28,7 +28,7 @@ use Rattle.rules.proofs.TextReads.{tag-reads}
 use Rattle.rules.proofs.Lengths.{text-length, raw-length}
 use Rattle.digits.proofs.Texts.{length-hex}
 use Rattle.lines.specs.Hex.{isBank, bytesIn, bankIn}
-use Rattle.lines.specs.Replies.{lineN, shown, ofText, ofBank, bankReply, begun, replyOf, lineX}
+use Rattle.lines.specs.Replies.{replyN, shown, ofText, ofBank, bankReply, begun, replyOf, replyX}
 use Rattle.lines.specs.Lines.{feed, printed}
 use Rattle.lines.proofs.Hexes.{read-count}
 use Rattle.lines.proofs.Pieces.{decimal-long}
@@ -54,7 +54,7 @@ sizes Gdti96 = omega arith
 sizes Gdti174 = omega arith
 sizes Gid96 = omega arith
 
-number-short : (n m : ℕ) → n < 10 → Short m (lineN n)
+number-short : (n m : ℕ) → n < 10 → Short m (replyN n)
 number-short n m h = let d = decimal-long n in let e = size-small 10 (lit< tt) n h in (omega arith, omega arith)
 
 -- To a text.
@@ -147,7 +147,7 @@ reply-short : (l : List ℕ) → Short (length l) (replyOf l)
 unfolding replyOf
 reply-short l = go (begun (after (bytes "urn:") l)) (leb (length l) 200)
   where
-    go : (t u : Bool) → Short (length l) (cond t (cond u (ofText (tagOfText l)) lineX) (bankReply (bankIn l)))
+    go : (t u : Bool) → Short (length l) (cond t (cond u (ofText (tagOfText l)) replyX) (bankReply (bankIn l)))
     go true true = text-short l
     go true false = (lit≤ tt, omega arith)
     go false u = hex-short l

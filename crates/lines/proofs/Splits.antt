@@ -12,7 +12,7 @@ use Rattle.rules.specs.Bytes.{among, upto, behind}
 use Rattle.rules.proofs.Tests.{is-false, both, and}
 use Rattle.rules.proofs.Runs.{run-is, without, among-of}
 use Rattle.digits.proofs.Runs.{drop-next}
-use Rattle.lines.specs.Lines.{feed, linesOf, printed, outputOf, finished, whole, lastOf}
+use Rattle.lines.specs.Lines.{feed, linesOf, printed, outputOf, finished, whole, endReply}
 
 -- no line feed stands among the bytes
 abbrev pub Unfed : List ℕ → Type 0
@@ -67,7 +67,7 @@ alone : (x : ℕ) (l : List ℕ) → Unfed (x ∷ l) → linesOf (x ∷ l) ≡ (
 alone x [] h = rw (is-false (eqb feed x) (both (not (eqb feed x)) true h .0))
 alone x (y ∷ l) h = let (p, q) = both (not (eqb feed x)) (without feed (y ∷ l)) h in rw (is-false (eqb feed x) p, alone y l q)
 
-pub last-line : (l : List ℕ) → Unfed l → outputOf l ≡ lastOf l
+pub last-line : (l : List ℕ) → Unfed l → outputOf l ≡ endReply l
 unfolding outputOf
 last-line [] h = refl
 last-line (x ∷ l) h = rw (alone x l h) (append-nil (printed (x ∷ l)))

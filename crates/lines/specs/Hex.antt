@@ -1,4 +1,4 @@
--- A bank in hex: an even number, at most 128, of upper-case hex digits.
+-- A bank in hex: an even number, at most 128, of upper-case hex digits (document 01).
 use Prim.Native.Nat.{ℕ, _+_, _*_, _%_}
 use mathlib.Core.List.{List, [], _∷_}
 use mathlib.Core.Option.{Option, none, some}
@@ -24,8 +24,12 @@ bytesIn [] = []
 bytesIn (h ∷ []) = []
 bytesIn (h ∷ l ∷ t) = (16 * hexValue h + hexValue l) ∷ bytesIn t
 
+-- a line has at most so many
+abbrev pub mostDigits : ℕ
+mostDigits = 128
+
 unfoldable pub isBank : List ℕ → Bool
-isBank l = leb (length l) 128 && eqb (length l % 2) 0 && all isHex l
+isBank l = leb (length l) mostDigits && eqb (length l % 2) 0 && all isHex l
 
 abbrev pub bankIn : List ℕ → Option (List ℕ)
 bankIn l = cond (isBank l) (some (bytesIn l)) none

@@ -5,8 +5,9 @@ use mathlib.Core.Bool.{cond}
 use lib.Dec.{leb, eqb}
 use lib.ListN.{length, take, drop}
 use Rattle.rules.specs.Bytes.{among}
+use Rattle.rules.specs.Calls.{textRoom}
 use Rattle.digits.specs.Pieces.{Puts}
-use Rattle.lines.specs.Replies.{replyOf}
+use Rattle.lines.specs.Replies.{mostCharacters, replyOf}
 
 abbrev pub feed : ℕ
 feed = 0x0A
@@ -43,18 +44,22 @@ finished (x ∷ xs) = let r = suc (finished xs) in cond (among feed (x ∷ xs)) 
 unfoldable pub whole : List ℕ → List ℕ
 whole input = take (finished input) input
 
--- what is kept of the bytes from a place on: of a line of more than 200 characters, that it has more
+-- how many bytes are kept of a line that has not ended: with one more than it may have, its reply is X whatever follows
+abbrev pub mostKept : ℕ
+mostKept = mostCharacters + 1
+
+-- what is kept of the bytes from an index on
 abbrev pub kept : ℕ → List ℕ → List ℕ
-kept from input = take 201 (drop from input)
+kept from input = take mostKept (drop from input)
 
 -- what is printed for the bytes after the last line feed
-abbrev pub lastOf : List ℕ → List ℕ
-lastOf [] = []
-lastOf (x ∷ xs) = printed (x ∷ xs)
+abbrev pub endReply : List ℕ → List ℕ
+endReply [] = []
+endReply (x ∷ xs) = printed (x ∷ xs)
 
 -- what is printed, piece by piece: for the lines that have ended; at the end, for the bytes that are left
 abbrev pub session : List ℕ → List (List ℕ) → List ℕ
-session rest [] = lastOf rest
+session rest [] = endReply rest
 session rest (p ∷ ps) = let input = rest ++ p in outputOf (whole input) ++ session (kept (length (whole input)) input) ps
 
 -- the pieces put together
@@ -72,10 +77,18 @@ Wrote w out n after = Puts w 0 out n after
 abbrev pub ifRoom : ℕ → List ℕ → List ℕ → List ℕ
 ifRoom room out w = cond (leb room (length out)) w []
 
--- the room for a reply: 160 bytes for a raw line, and what stands before it
-abbrev pub replyRoom : ℕ
-replyRoom = 165
+-- before a raw line stand a letter, a number of two digits, and a space behind each
+abbrev pub afterNumber : ℕ
+afterNumber = 5
 
--- the room for the replies to an input: no line is answered by more than four times its bytes
+-- the room for any reply: the codec's for a raw line, and what stands before it
+abbrev pub replyRoom : ℕ
+replyRoom = afterNumber + textRoom
+
+-- a reply with its line feed has at most four times the bytes of its line with its own
+abbrev pub growth : ℕ
+growth = 4
+
+-- the room for the replies to an input
 abbrev pub inputRoom : List ℕ → ℕ
-inputRoom input = 4 * length input + replyRoom
+inputRoom input = growth * length input + replyRoom

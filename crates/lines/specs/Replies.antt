@@ -24,46 +24,49 @@ abbrev pub decimal : ℕ → List ℕ
 decimal n = digitsText (shortest 10 n)
 
 -- `B` and the bank in hex
-abbrev pub lineB : List ℕ → List ℕ
-lineB bank = bytes "B " ++ hexText bank
+abbrev pub replyB : List ℕ → List ℕ
+replyB bank = bytes "B " ++ hexText bank
 
 -- `T` and the tag text
-abbrev pub lineT : List ℕ → List ℕ
-lineT text = bytes "T " ++ text
+abbrev pub replyT : List ℕ → List ℕ
+replyT text = bytes "T " ++ text
 
 -- `R`, the refusal number and the raw line
-abbrev pub lineR : ℕ → List ℕ → List ℕ
-lineR n raw = bytes "R " ++ (decimal n ++ space ∷ raw)
+abbrev pub replyR : ℕ → List ℕ → List ℕ
+replyR n raw = bytes "R " ++ (decimal n ++ space ∷ raw)
 
 -- `N` and the number
-abbrev pub lineN : ℕ → List ℕ
-lineN n = bytes "N " ++ decimal n
+abbrev pub replyN : ℕ → List ℕ
+replyN n = bytes "N " ++ decimal n
 
 -- a line of neither kind
-abbrev pub lineX : List ℕ
-lineX = bytes "X"
+abbrev pub replyX : List ℕ
+replyX = bytes "X"
 
 -- a refusal, and what the screen shows for it: `N` where there is nothing to show
 abbrev pub shown : ℕ → List ℕ → List ℕ
-shown n [] = lineN n
-shown n (x ∷ xs) = lineR n (x ∷ xs)
+shown n [] = replyN n
+shown n (x ∷ xs) = replyR n (x ∷ xs)
 
 abbrev pub ofText : Answer Tag → List ℕ
-ofText (taken τ) = lineB (bankOf τ)
-ofText (refused n) = lineN n
+ofText (taken τ) = replyB (bankOf τ)
+ofText (refused n) = replyN n
 
 abbrev pub ofBank : List ℕ → Answer Tag → List ℕ
-ofBank b (taken τ) = lineT (textOf τ)
+ofBank b (taken τ) = replyT (textOf τ)
 ofBank b (refused n) = shown n (screen [] (rawText b) n)
 
--- a line that begins `urn:` has at most 200 characters
+-- a line that begins `urn:` has at most so many characters
+abbrev pub mostCharacters : ℕ
+mostCharacters = 200
+
 abbrev pub textReply : List ℕ → List ℕ
-textReply l = cond (leb (length l) 200) (ofText (tagOfText l)) lineX
+textReply l = cond (leb (length l) mostCharacters) (ofText (tagOfText l)) replyX
 
 -- any other holds a bank in hex
 abbrev pub bankReply : Option (List ℕ) → List ℕ
 bankReply (some b) = ofBank b (tagOfBank b)
-bankReply none = lineX
+bankReply none = replyX
 
 -- whether a text begins so
 abbrev pub begun : Option (List ℕ) → Bool

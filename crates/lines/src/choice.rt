@@ -1,6 +1,7 @@
 // The reply to one line: to a tag text, to a bank in hex, to neither (document 01). Each is written from the output's start on, and its
 // length answered.
 use super::hex;
+use super::letters::AFTER_LETTER;
 use super::letters::put_bank;
 use super::letters::put_neither;
 use super::letters::put_number;
@@ -15,6 +16,21 @@ ghost use Rattle.rules.specs.BankNumbers.{tagOfBank};
 ghost use Rattle.lines.specs.Hex.{bankIn};
 ghost use Rattle.lines.specs.Replies.{ofBank, textReply, bankReply, begun, replyOf};
 ghost use Rattle.lines.specs.Lines.{Wrote, replyRoom};
+
+// A line that begins `urn:` has at most so many characters.
+pub const MOST_CHARACTERS: usize = 200;
+
+// The room that the codec asks for a bank.
+const BANK_ROOM: usize = 64;
+
+// The room that it asks for a text or a raw line.
+const TEXT_ROOM: usize = 160;
+
+// Before a raw line stand a letter, a number of two digits, and a space behind each.
+const AFTER_NUMBER: usize = 5;
+
+// The room for any reply, with its line feed.
+pub const REPLY_ROOM: usize = AFTER_NUMBER + TEXT_ROOM;
 
 // Whether a line begins `urn:`.
 fn is_text(line: &[u8]) -> bool
@@ -40,10 +56,10 @@ fn text_reply(line: &[u8], out: &mut [u8]) -> usize
     requires { ⌜ replyRoom ≤ length (now out) ⌝ }
     ensures { λ r. ⌜ Wrote (textReply (now (line .entry))) (now (out .entry)) r (now (out .exit)) ⌝ }
 {
-    if 200 < line.len() {
+    if MOST_CHARACTERS < line.len() {
         return put_neither(out);
     }
-    let mut bank = [0u8; 64];
+    let mut bank = [0u8; BANK_ROOM];
     match codec::text_to_bank(line, &mut bank) {
         Answer::Written(n) => put_bank(&bank[..n], out),
         Answer::Refused(number) => put_number(b'N', number, out),
@@ -55,11 +71,11 @@ fn refused_reply(bank: &[u8], number: u8, out: &mut [u8]) -> usize
     requires { ⌜ (tagOfBank (now bank) ≡ refused number) × (replyRoom ≤ length (now out)) ⌝ }
     ensures { λ r. ⌜ Wrote (ofBank (now (bank .entry)) (refused number)) (now (out .entry)) r (now (out .exit)) ⌝ }
 {
-    match codec::raw_line(bank, &mut out[5..]) {
+    match codec::raw_line(bank, &mut out[AFTER_NUMBER..]) {
         Answer::Written(n) => {
             let end = put_number(b'R', number, out);
             out[end] = b' ';
-            n + 5
+            n + AFTER_NUMBER
         }
         Answer::Refused(_) => put_number(b'N', number, out),
     }
@@ -70,11 +86,11 @@ fn bank_reply(bank: &[u8], out: &mut [u8]) -> usize
     requires { ⌜ replyRoom ≤ length (now out) ⌝ }
     ensures { λ r. ⌜ Wrote (ofBank (now (bank .entry)) (tagOfBank (now (bank .entry)))) (now (out .entry)) r (now (out .exit)) ⌝ }
 {
-    match codec::bank_to_text(bank, &mut out[2..]) {
+    match codec::bank_to_text(bank, &mut out[AFTER_LETTER..]) {
         Answer::Written(n) => {
             out[0] = b'T';
             out[1] = b' ';
-            n + 2
+            n + AFTER_LETTER
         }
         Answer::Refused(number) => refused_reply(bank, number, out),
     }
@@ -88,7 +104,7 @@ fn hex_reply(line: &[u8], out: &mut [u8]) -> usize
     if !hex::is_bank(line) {
         return put_neither(out);
     }
-    let mut bank = [0u8; 64];
+    let mut bank = [0u8; BANK_ROOM];
     hex::read(line, &mut bank);
     let n = line.len() / 2;
     bank_reply(&bank[..n], out)

@@ -8,6 +8,9 @@ ghost use Rattle.numeral.specs.Numeral.{splice};
 ghost use Rattle.rules.specs.Bytes.{all};
 ghost use Rattle.lines.specs.Hex.{isHex, isLetter, hexValue, bytesIn, isBank};
 
+// A line has at most so many digits.
+const MOST_DIGITS: usize = 128;
+
 // 0 for one of the letters A to F, 1 for any other byte.
 fn not_letter(c: u8) -> u8
     ensures { λ r. ⌜ r ≡ cond (isLetter c) 0 1 ⌝ }
@@ -40,7 +43,7 @@ fn all_hex(line: &[u8]) -> bool
 pub fn is_bank(line: &[u8]) -> bool
     ensures { λ r. ⌜ r ≡ isBank (now (line .entry)) ⌝ }
 {
-    if 128 < line.len() {
+    if MOST_DIGITS < line.len() {
         return false;
     }
     if line.len() % 2 != 0 {
@@ -49,7 +52,7 @@ pub fn is_bank(line: &[u8]) -> bool
     all_hex(line)
 }
 
-// The value of a hex digit: the letters stand 9 behind what their lower four bits say.
+// The value of a hex digit. The lower four bits of `A` are 1, and only letters are 64 or more.
 fn value(c: u8) -> u8
     requires { ⌜ T (isHex c) ⌝ }
     ensures { λ r. ⌜ r ≡ hexValue c ⌝ }

@@ -2,13 +2,16 @@
 ghost use mathlib.Core.List.{_∷_};
 ghost use Prim.Native.Nat.{_+_, _*_, _≤_};
 ghost use lib.ListN.{length};
-ghost use Rattle.lines.specs.Replies.{space, decimal, lineB, lineX};
+ghost use Rattle.lines.specs.Replies.{space, decimal, replyB, replyX};
 ghost use Rattle.lines.specs.Lines.{Wrote};
+
+// A letter and a space stand before what a reply shows.
+pub const AFTER_LETTER: usize = 2;
 
 // `X`.
 pub fn put_neither(out: &mut [u8]) -> usize
     requires { ⌜ 1 ≤ length (now out) ⌝ }
-    ensures { λ r. ⌜ Wrote lineX (now (out .entry)) r (now (out .exit)) ⌝ }
+    ensures { λ r. ⌜ Wrote replyX (now (out .entry)) r (now (out .exit)) ⌝ }
 {
     out[0] = b'X';
     1
@@ -17,12 +20,12 @@ pub fn put_neither(out: &mut [u8]) -> usize
 // `B` and the bank in hex.
 pub fn put_bank(bank: &[u8], out: &mut [u8]) -> usize
     requires { ⌜ 2 + 2 * length (now bank) ≤ length (now out) ⌝ }
-    ensures { λ r. ⌜ Wrote (lineB (now (bank .entry))) (now (out .entry)) r (now (out .exit)) ⌝ }
+    ensures { λ r. ⌜ Wrote (replyB (now (bank .entry))) (now (out .entry)) r (now (out .exit)) ⌝ }
 {
     out[0] = b'B';
     out[1] = b' ';
-    digits::put_hex(out, 2, bank);
-    2 + 2 * bank.len()
+    digits::put_hex(out, AFTER_LETTER, bank);
+    AFTER_LETTER + 2 * bank.len()
 }
 
 // A letter and a number.
@@ -32,5 +35,5 @@ pub fn put_number(letter: u8, number: u8, out: &mut [u8]) -> usize
 {
     out[0] = letter;
     out[1] = b' ';
-    digits::put_decimal(out, 2, number as u64)
+    digits::put_decimal(out, AFTER_LETTER, number as u64)
 }

@@ -4,11 +4,18 @@ mod choice;
 mod hex;
 mod letters;
 
+pub use choice::REPLY_ROOM;
 ghost use mathlib.Core.Path.{_≡_};
 ghost use Prim.Native.Nat.{_+_, _≤_, min};
 ghost use lib.ListN.{length, drop};
 ghost use Rattle.rules.specs.Bytes.{upto};
-ghost use Rattle.lines.specs.Lines.{feed, printed, outputOf, whole, kept, lastOf, Wrote, ifRoom, replyRoom, inputRoom};
+ghost use Rattle.lines.specs.Lines.{feed, printed, outputOf, whole, kept, endReply, Wrote, ifRoom, replyRoom, inputRoom};
+
+// A reply with its line feed has at most so many times the bytes of its line with its own.
+pub const GROWTH: usize = 4;
+
+// So many bytes are kept of a line that has not ended. It is then too long, and its reply is X whatever follows.
+const MOST_KEPT: usize = choice::MOST_CHARACTERS + 1;
 
 // The reply to a line with its line feed, from the output's start on.
 fn put_reply(line: &[u8], out: &mut [u8]) -> usize
@@ -20,11 +27,11 @@ fn put_reply(line: &[u8], out: &mut [u8]) -> usize
     n + 1
 }
 
-// The reply to a line with its line feed, from the output's start on, and its length. An output of less than 165 bytes gets nothing.
+// The reply to a line with its line feed, from the output's start on, and its length. An output of less than `REPLY_ROOM` bytes gets nothing.
 pub fn reply(line: &[u8], out: &mut [u8]) -> usize
     ensures { λ r. ⌜ Wrote (ifRoom replyRoom (now (out .entry)) (printed (now (line .entry)))) (now (out .entry)) r (now (out .exit)) ⌝ }
 {
-    if out.len() < 165 {
+    if out.len() < REPLY_ROOM {
         return 0;
     }
     put_reply(line, out)
@@ -32,7 +39,7 @@ pub fn reply(line: &[u8], out: &mut [u8]) -> usize
 
 // The reply to the bytes after the last line feed, if there are any.
 pub fn last_reply(rest: &[u8], out: &mut [u8]) -> usize
-    ensures { λ r. ⌜ Wrote (ifRoom replyRoom (now (out .entry)) (lastOf (now (rest .entry)))) (now (out .entry)) r (now (out .exit)) ⌝ }
+    ensures { λ r. ⌜ Wrote (ifRoom replyRoom (now (out .entry)) (endReply (now (rest .entry)))) (now (out .entry)) r (now (out .exit)) ⌝ }
 {
     if rest.len() == 0 {
         return 0;
@@ -61,17 +68,17 @@ pub struct Done {
 }
 
 // The replies to all lines of the input that have ended, one after the other from the output's start on. An output that is shorter than
-// four times the input and 165 bytes gets nothing, and nothing is read.
+// `GROWTH` times the input and `REPLY_ROOM` bytes gets nothing, and nothing is read.
 pub fn replies(input: &[u8], out: &mut [u8]) -> Done
     ensures { λ r. ⌜ r .read ≡ length (ifRoom (inputRoom (now (input .entry))) (now (out .entry)) (whole (now (input .entry)))) ⌝ }
     ensures { λ r. ⌜ Wrote (ifRoom (inputRoom (now (input .entry))) (now (out .entry)) (outputOf (whole (now (input .entry))))) (now (out .entry)) (r .written) (now (out .exit)) ⌝ }
 {
     let mut read = 0;
     let mut written = 0;
-    if out.len() < 165 {
+    if out.len() < REPLY_ROOM {
         return Done { read, written };
     }
-    if (out.len() - 165) / 4 < input.len() {
+    if (out.len() - REPLY_ROOM) / GROWTH < input.len() {
         return Done { read, written };
     }
     let mut end = line_end(input, 0);
@@ -89,14 +96,14 @@ fn least(a: usize, b: usize) -> usize
     if a < b { a } else { b }
 }
 
-// Moves the bytes from index `from` on to the input's start, at most 201 of them, and answers their number.
+// Moves the bytes from index `from` on to the input's start, at most `MOST_KEPT` of them, and answers their number.
 pub fn hold(input: &mut [u8], from: usize) -> usize
     ensures { λ r. ⌜ Wrote (kept from (now (input .entry))) (now (input .entry)) r (now (input .exit)) ⌝ }
 {
     if input.len() < from {
         return 0;
     }
-    let n = least(input.len() - from, 201);
+    let n = least(input.len() - from, MOST_KEPT);
     for i in 0..n {
         input[i] = input[from + i];
     }

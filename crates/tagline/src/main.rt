@@ -4,7 +4,13 @@ use libc::STDOUT_FILENO;
 ghost use mathlib.Core.Path.{_≡_};
 ghost use Prim.Native.Nat.{_≤_, _<_};
 ghost use lib.ListN.{length};
-ghost use Rattle.lines.specs.Lines.{inputRoom};
+ghost use Rattle.lines.specs.Lines.{mostKept, inputRoom};
+
+// The bytes that are kept and those of one read, as `io::large_buffer` has room for them.
+const INPUT: usize = 65536;
+
+// The room for the replies to them.
+const ROOM: usize = lines::GROWTH * INPUT + lines::REPLY_ROOM;
 
 // How many bytes are kept of a line that has not ended, and whether there may be more to read.
 struct Turn {
@@ -14,8 +20,8 @@ struct Turn {
 
 // One read behind the bytes that are kept, and the replies to the lines that have then ended.
 fn one_turn(input: &mut [u8], kept: usize, out: &mut [u8]) -> Turn
-    requires { ⌜ (kept ≤ 201) × (201 < length (now input)) × (inputRoom (now input) ≤ length (now out)) ⌝ }
-    ensures { λ r. ⌜ r .kept ≤ 201 ⌝ }
+    requires { ⌜ (kept ≤ mostKept) × (mostKept < length (now input)) × (inputRoom (now input) ≤ length (now out)) ⌝ }
+    ensures { λ r. ⌜ r .kept ≤ mostKept ⌝ }
 {
     let got = libc::read(STDIN_FILENO, &mut input[kept..]);
     let n = io::count(got, &input[kept..]);
@@ -32,8 +38,8 @@ fn one_turn(input: &mut [u8], kept: usize, out: &mut [u8]) -> Turn
 
 // Turn after turn to the end of the input: how many bytes are then kept.
 fn all_turns(input: &mut [u8], out: &mut [u8]) -> usize
-    requires { ⌜ (201 < length (now input)) × (inputRoom (now input) ≤ length (now out)) ⌝ }
-    ensures { λ r. ⌜ r ≤ 201 ⌝ }
+    requires { ⌜ (mostKept < length (now input)) × (inputRoom (now input) ≤ length (now out)) ⌝ }
+    ensures { λ r. ⌜ r ≤ mostKept ⌝ }
 {
     let mut kept = 0;
     let mut left = u64::MAX;
@@ -48,11 +54,10 @@ fn all_turns(input: &mut [u8], out: &mut [u8]) -> usize
     kept
 }
 
-// Room for the replies to 65,536 bytes.
-fn room() -> [u8; 262309]
-    ensures { λ r. ⌜ 262309 ≡ length r ⌝ }
+fn room() -> [u8; ROOM]
+    ensures { λ r. do ⌜ (← ⟦ROOM⟧ .entry) ≡ length r ⌝ }
 {
-    [0; 262309]
+    [0; ROOM]
 }
 
 fn main() {

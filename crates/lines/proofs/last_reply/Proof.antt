@@ -7,16 +7,16 @@ use native.Mathlib.Omega.{arith}
 use lib.Dec.{leb}
 use lib.ListN.{length}
 use borrow.Author.Needs.{needs}
-use Rattle.lines.specs.Lines.{printed, lastOf}
+use Rattle.lines.specs.Lines.{printed, endReply}
 use Rattle.lines.proofs.Pieces.{wrote-nothing}
 use Rattle.lines.proofs.last_reply.Statement.{statement}
 use Rattle.lines.proofs.last_reply.Tie as tie
 
-no-line : (l : List ℕ) → length l ≡ 0 → lastOf l ≡ []
+no-line : (l : List ℕ) → length l ≡ 0 → endReply l ≡ []
 no-line [] e = refl
 no-line (x ∷ l) e = absurd (omega arith)
 
-a-line : (l : List ℕ) → ¬ (length l ≡ 0) → lastOf l ≡ printed l
+a-line : (l : List ℕ) → ¬ (length l ≡ 0) → endReply l ≡ printed l
 a-line [] n = absurd (n refl)
 a-line (x ∷ l) n = refl
 

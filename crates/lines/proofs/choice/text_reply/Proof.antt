@@ -7,7 +7,7 @@ use lib.ListN.{length, take, length-take}
 use borrow.Author.Needs.{needs}
 use borrow.Author.Tests.{le-leb, lt-leb}
 use Rattle.rules.specs.TextNumbers.{tagOfText}
-use Rattle.lines.specs.Replies.{lineB, ofText}
+use Rattle.lines.specs.Replies.{replyB, ofText}
 use Rattle.lines.proofs.Answered.{bank-written, text-refused}
 use Rattle.lines.proofs.choice.text_reply.Statement.{statement}
 use Rattle.lines.proofs.choice.text_reply.Tie as tie
@@ -21,7 +21,7 @@ long c =
 wrote : (c : tie.After-known-told) → let b = c .before .before .before .before in
     let n = c .before .n .given .0 .0 in
     let e = b .text-to-bank .last .1 .0 in
-    (n ≤ 64) × (n ≡ length (take n e)) × (ofText (tagOfText (b .before .before .before .before .before .args .line .now)) ≡ lineB (take n e))
+    (n ≤ 64) × (n ≡ length (take n e)) × (ofText (tagOfText (b .before .before .before .before .before .args .line .now)) ≡ replyB (take n e))
 wrote c =
     let b = c .before .before .before .before in
     bank-written (b .before .before .before .before .before .args .line .now) _ (b .text-to-bank .last .1 .0) (c .before .n .given .0 .0) (lit≤ tt) (rw (c .before .n .given .1) at (b .text-to-bank .ensures))
