@@ -13,7 +13,7 @@ use Rattle.rules.specs.Coding.{bankOf, bankSize, wordCount}
 use Rattle.rules.specs.TextNumbers.{tagOfText}
 use Rattle.rules.specs.BankNumbers.{tagOfBank}
 use Rattle.rules.specs.Raw.{rawText, rawOfBank}
-use Rattle.rules.specs.Calls.{call, lent, textToBank, bankToText, rawLine}
+use Rattle.rules.specs.Calls.{call, lent, bankRoom, textRoom, textToBank, bankToText, rawLine}
 use Rattle.rules.proofs.Answers.{Reads}
 use Rattle.rules.proofs.Banks.{Shown, bank-length}
 use Rattle.rules.proofs.BankReads.{bank-reads, raw-reads}
@@ -74,12 +74,12 @@ raw-firm b = go (rawOfBank b) (raw-reads b)
         some-raw : 0 < length (rawText b)
         some-raw = unfold rawText in omega arith
 
-module _ (t out e : List ℕ) (n : ℕ) (l : 64 ≤ length out) where
+module _ (t out e : List ℕ) (n : ℕ) (l : bankRoom ≤ length out) where
   -- the bank stands at the output's start
-  pub bank-written : answered (Written n) e ≡ textToBank t out → (n ≤ 64) × (n ≡ length (take n e)) × (ofText (tagOfText t) ≡ replyB (take n e))
+  pub bank-written : answered (Written n) e ≡ textToBank t out → (n ≤ bankRoom) × (n ≡ length (take n e)) × (ofText (tagOfText t) ≡ replyB (take n e))
   unfolding textToBank
   bank-written h =
-      let (w, a, c, o) = was-written 64 out (tagOfText t >>= λ τ. taken (bankOf τ)) n e (firm bankOf some-bytes (textRules t) (TagText t) (tagOfText t) (tag-reads t)) l h in
+      let (w, a, c, o) = was-written bankRoom out (tagOfText t >>= λ τ. taken (bankOf τ)) n e (firm bankOf some-bytes (textRules t) (TagText t) (tagOfText t) (tag-reads t)) l h in
       let (τ, i, f) = tag-taken bankOf some-bytes (tagOfText t) w a in
       let p : take n e ≡ w = ap (take n) o ∙ take-at w (drop (length w) out) n (sym c) in
       (omega (arith, c, ap length f, bank-size τ), c ∙ ap length (sym p), ap ofText i ∙ ap replyB (f ∙ sym p))
@@ -87,15 +87,15 @@ module _ (t out e : List ℕ) (n : ℕ) (l : 64 ≤ length out) where
   pub text-refused : answered (Refused n) e ≡ textToBank t out → ofText (tagOfText t) ≡ replyN n
   unfolding textToBank
   text-refused h =
-      let (a, o) = was-refused 64 out (tagOfText t >>= λ τ. taken (bankOf τ)) n e (firm bankOf some-bytes (textRules t) (TagText t) (tagOfText t) (tag-reads t)) l h in
+      let (a, o) = was-refused bankRoom out (tagOfText t >>= λ τ. taken (bankOf τ)) n e (firm bankOf some-bytes (textRules t) (TagText t) (tagOfText t) (tag-reads t)) l h in
       ap ofText (tag-refused bankOf some-bytes (tagOfText t) n a)
 
-module _ (b out e : List ℕ) (n : ℕ) (l : 160 ≤ length out) where
+module _ (b out e : List ℕ) (n : ℕ) (l : textRoom ≤ length out) where
   pub text-written : answered (Written n) e ≡ bankToText b out
       → (τ : Tag) × (tagOfBank b ≡ taken τ) × (n ≡ length (textOf τ)) × (n ≤ 99) × (e ≡ textOf τ ++ drop (length (textOf τ)) out)
   unfolding bankToText
   text-written h =
-      let (w, a, c, o) = was-written 160 out (tagOfBank b >>= λ τ. taken (textOf τ)) n e (firm textOf some-text (bankRules b) (Shown b) (tagOfBank b) (bank-reads b)) l h in
+      let (w, a, c, o) = was-written textRoom out (tagOfBank b >>= λ τ. taken (textOf τ)) n e (firm textOf some-text (bankRules b) (Shown b) (tagOfBank b) (bank-reads b)) l h in
       let (τ, i, f) = tag-taken textOf some-text (tagOfBank b) w a in
       let r = rw i at (bank-reads b) in
       let k : length (textOf τ) ≤ 99 = text-length (textOf τ) τ (record { fits = r .1 .fits; text = refl }) in
@@ -104,17 +104,17 @@ module _ (b out e : List ℕ) (n : ℕ) (l : 160 ≤ length out) where
   pub bank-refused : answered (Refused n) e ≡ bankToText b out → (tagOfBank b ≡ refused n) × (e ≡ out)
   unfolding bankToText
   bank-refused h =
-      let (a, o) = was-refused 160 out (tagOfBank b >>= λ τ. taken (textOf τ)) n e (firm textOf some-text (bankRules b) (Shown b) (tagOfBank b) (bank-reads b)) l h in
+      let (a, o) = was-refused textRoom out (tagOfBank b >>= λ τ. taken (textOf τ)) n e (firm textOf some-text (bankRules b) (Shown b) (tagOfBank b) (bank-reads b)) l h in
       (tag-refused textOf some-text (tagOfBank b) n a, o)
 
   pub raw-written : answered (Written n) e ≡ rawLine b out
       → (rawOfBank b ≡ taken (rawText b)) × (n ≡ length (rawText b)) × (e ≡ rawText b ++ drop (length (rawText b)) out)
   unfolding rawLine
   raw-written h =
-      let (w, a, c, o) = was-written 160 out (rawOfBank b) n e (raw-firm b) l h in
+      let (w, a, c, o) = was-written textRoom out (rawOfBank b) n e (raw-firm b) l h in
       let f : w ≡ rawText b = (rw a at (raw-reads b)) .1 .0 in
       (a ∙ ap taken f, c ∙ ap length f, o ∙ ap (λ x. x ++ drop (length x) out) f)
 
   pub raw-refused : answered (Refused n) e ≡ rawLine b out → (rawOfBank b ≡ refused n) × (e ≡ out)
   unfolding rawLine
-  raw-refused h = was-refused 160 out (rawOfBank b) n e (raw-firm b) l h
+  raw-refused h = was-refused textRoom out (rawOfBank b) n e (raw-firm b) l h

@@ -10,11 +10,12 @@ use lib.Seq.{take-at}
 use Rattle.numeral.specs.Numeral.{splice}
 use Rattle.numeral.proofs.Splices.{splice-snoc, length-splice}
 use Rattle.rules.specs.Bytes.{all, hexDigits}
+use Rattle.rules.specs.Calls.{bankRoom}
 use Rattle.rules.specs.TextNumbers.{isDigit}
 use Rattle.rules.proofs.Tests.{both, all-among, below-is}
 use Rattle.digits.proofs.Alls.{wrongOf}
 use Rattle.lines.proofs.Pieces.{splice-front}
-use Rattle.lines.specs.Hex.{isHex, isLetter, hexValue, bytesIn, isBank}
+use Rattle.lines.specs.Hex.{isHex, isLetter, hexValue, bytesIn, mostDigits, isBank}
 
 -- Which bytes are letters, and which are digits: two tests over the 256 bytes.
 module _ (c : ℕ) (byte : c < 256) where
@@ -89,14 +90,14 @@ read-count t =
 
 -- a line that is a bank
 module _ (t : List ℕ) (h : isBank t ≡ true) where
-  pub bank-fits : T (all isHex t) × (length t ≤ 128)
+  pub bank-fits : T (all isHex t) × (length t ≤ mostDigits)
   unfolding isBank
   bank-fits =
-      let (a, d) = both (leb (length t) 128 && eqb (length t % 2) 0) (all isHex t) (rw h tt) in
-      (d, leb→le (length t) 128 (both (leb (length t) 128) (eqb (length t % 2) 0) a .0))
+      let (a, d) = both (leb (length t) mostDigits && eqb (length t % 2) 0) (all isHex t) (rw h tt) in
+      (d, leb→le (length t) mostDigits (both (leb (length t) mostDigits) (eqb (length t % 2) 0) a .0))
 
-  -- as it is read into an output of 64 bytes
-  pub bank-read : (z e : List ℕ) → length z ≡ 64 → e ≡ splice z 0 (bytesIn t)
+  -- as it is read into an output with the room for it
+  pub bank-read : (z e : List ℕ) → length z ≡ bankRoom → e ≡ splice z 0 (bytesIn t)
       → (length t / 2 ≤ length e) × (length t / 2 ≡ length (take (length t / 2) e)) × (take (length t / 2) e ≡ bytesIn t)
   bank-read z e l i =
       let c = read-count t in

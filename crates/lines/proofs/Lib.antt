@@ -8,4 +8,5 @@ pub mod Screens
 pub mod Sizes
 pub mod Splits
 pub mod Passes
+pub mod Turns
 pub mod Sessions

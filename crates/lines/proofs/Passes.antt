@@ -9,7 +9,8 @@ use borrow.Rule.Slice.PartMut.{mid-len}
 use Rattle.numeral.specs.Numeral.{splice}
 use Rattle.numeral.proofs.Splices.{length-splice, take-splice, drop-splice}
 use Rattle.rules.specs.Bytes.{upto}
-use Rattle.lines.specs.Lines.{feed, printed, outputOf, whole, Wrote, replyRoom, inputRoom}
+use Rattle.lines.specs.Lines.{feed, printed, outputOf, Wrote, replyRoom, inputRoom}
+use Rattle.lines.specs.Turns.{whole}
 use Rattle.lines.proofs.Pieces.{splice-front, part, back, put-back}
 use Rattle.lines.proofs.Sizes.{printed-long}
 use Rattle.lines.proofs.Splits.{no-output, none-ended, not-ended, the-line, ended-is, output-is}

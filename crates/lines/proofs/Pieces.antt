@@ -8,8 +8,8 @@ use native.Mathlib.Omega.{arith}
 use native.Mathlib.Nat.{zero-add}
 use native.Mathlib.Numerals.{add-one}
 use lib.Dec.{lit<}
-use lib.ListN.{length, take, drop, getD, set, length-append, length-take, length-drop, drop-of-length-le}
-use lib.Seq.{take-all, take-suc, drop-drop, append-snoc, length-take-le, getD-append-add, getD-drop}
+use lib.ListN.{length, take, drop, getD, set, length-append, length-take, length-drop, take-append-drop, drop-of-length-le}
+use lib.Seq.{take-all, take-suc, take-append-seam, drop-append-le, drop-drop, append-snoc, length-take-le, getD-append-add, getD-drop}
 use borrow.Rule.Slice.PartMut.{midOf, postOf, putMid, put-same}
 use Rattle.numeral.specs.Numeral.{splice, size, shortest}
 use Rattle.numeral.proofs.Shortest.{length-shortest, size-le}
@@ -17,7 +17,7 @@ use Rattle.numeral.proofs.Splices.{splice-one, splice-snoc, splice-after, splic
 use Rattle.numeral.proofs.Arithmetic.{lt-or-ge}
 use Rattle.digits.proofs.Texts.{length-text}
 use Rattle.lines.specs.Replies.{space, decimal, replyR}
-use Rattle.lines.specs.Lines.{Wrote}
+use Rattle.lines.specs.Lines.{Wrote, afterNumber}
 
 pub splice-front : (l x : List ℕ) → splice l 0 x ≡ x ++ drop (length x) l
 unfolding splice
@@ -68,17 +68,17 @@ pub text-behind : (l l₁ x : List ℕ) (a : ℕ) → 2 + length x ≤ length l 
 text-behind l l₁ x a h i =
     two-bytes l₁ a space (rw (i, length-splice l 2 x h) (omega arith)) ∙ rw i (before-piece l 2 (a ∷ space ∷ []) x refl (omega arith))
 
-pub raw-behind : (l l₁ l₂ x : List ℕ) (n at : ℕ) → 5 + length x ≤ length l → size 10 n ≡ 2 → l₁ ≡ splice l 5 x → Wrote (code "R" ∷ space ∷ decimal n) l₁ at l₂
+pub raw-behind : (l l₁ l₂ x : List ℕ) (n at : ℕ) → afterNumber + length x ≤ length l → size 10 n ≡ 2 → l₁ ≡ splice l afterNumber x → Wrote (code "R" ∷ space ∷ decimal n) l₁ at l₂
     → set l₂ at space ≡ splice l 0 (replyR n x)
 raw-behind l l₁ l₂ x n at h two i w =
     let d : length (decimal n) ≡ 2 = decimal-long n ∙ two in
     let a : List ℕ = code "R" ∷ space ∷ decimal n in
-    let k : length l₁ ≡ length l = ap length i ∙ length-splice l 5 x h in
-    let f : length (a ++ (space ∷ [])) ≡ 5 = simp length-append (omega arith) in
+    let k : length l₁ ≡ length l = ap length i ∙ length-splice l afterNumber x h in
+    let f : length (a ++ (space ∷ [])) ≡ afterNumber = simp length-append (omega arith) in
     ap (λ z. set z at space) (w .bytes)
     ∙ splice-snoc l₁ 0 a space at (omega (arith, w .end)) (omega (arith, w .end))
     ∙ ap (λ z. splice z 0 (a ++ (space ∷ []))) i
-    ∙ before-piece l 5 (a ++ (space ∷ [])) x f (omega arith)
+    ∙ before-piece l afterNumber (a ++ (space ∷ [])) x f (omega arith)
     ∙ ap (splice l 0) (append-snoc a space x)
 
 take-least : (d : List ℕ) (m n : ℕ) → n ≡ min (length d) m → take n d ≡ take m d
@@ -122,3 +122,18 @@ pub wrote-within : (w l after : List ℕ) (n : ℕ) → Wrote w l n after → le
 wrote-within w l after n h e =
     let k = ap length (h .bytes ∙ splice-front l w) in
     omega (arith, h .end, k, length-append w (drop (length w) l), length-drop (length w) l)
+
+-- and stands at its start
+pub wrote-begins : (w l after : List ℕ) (n : ℕ) → Wrote w l n after → take (length w) after ≡ w
+wrote-begins w l after n h = ap (take (length w)) (h .bytes ∙ splice-front l w) ∙ take-append-seam w (drop (length w) l)
+
+-- what is written into an output's first m bytes is written into the output
+pub wrote-part : (w l after : List ℕ) (m n : ℕ) → Wrote w (take m l) n after → length after ≡ length (take m l) → Wrote w l n (after ++ drop m l)
+wrote-part w l after m n h e =
+    let inside : length w ≤ length (take m l) = omega (arith, h .end, wrote-within w (take m l) after n h e) in
+    record {
+      end = h .end;
+      bytes =
+          ap (_++ drop m l) (h .bytes ∙ splice-front (take m l) w) ∙ append-assoc w (drop (length w) (take m l)) (drop m l)
+          ∙ ap (w ++_) (sym (drop-append-le (length w) (take m l) (drop m l) inside) ∙ ap (drop (length w)) (take-append-drop m l)) ∙ sym (splice-front l w);
+    }

@@ -10,18 +10,18 @@ use Rattle.rules.specs.Answers.{refused}
 use Rattle.rules.specs.Grammar.{textOf}
 use Rattle.rules.specs.BankNumbers.{tagOfBank}
 use Rattle.rules.specs.Raw.{rawText}
-use Rattle.rules.specs.Calls.{bankToText, rawLine}
+use Rattle.rules.specs.Calls.{textRoom, bankToText, rawLine}
 use Rattle.rules.proofs.Lengths.{raw-length}
 use Rattle.codec.specs.Answers.{answered}
 use Rattle.codec.specs.declared.Answer.the-variants.{Written, Refused}
 use Rattle.lines.specs.Replies.{space, decimal, ofBank}
-use Rattle.lines.specs.Lines.{Wrote, replyRoom}
+use Rattle.lines.specs.Lines.{Wrote, afterNumber, replyRoom}
 use Rattle.lines.proofs.Answered.{text-written, bank-refused, raw-written, raw-refused}
 use Rattle.lines.proofs.Pieces.{part, back, put-back, put-nothing, text-behind, raw-behind, decimal-long}
 use Rattle.lines.proofs.Refusals.{shown-number, hidden-number, with-raw, without-raw, two-digits}
 
 module _ (b l e : List ℕ) (k : ℕ) (long : replyRoom ≤ length l) where
-  room : (p : ℕ) → p ≤ 5 → 160 ≤ length (part l p)
+  room : (p : ℕ) → p ≤ afterNumber → textRoom ≤ length (part l p)
   room p h = omega (arith, mid-len p (length l) l (omega arith))
 
   pub text-shown : answered (Written k) e ≡ bankToText b (part l 2) → (k ≤ 99) × Wrote (ofBank b (tagOfBank b)) l (k + 2) (set (set (back l 2 e) 0 (code "T")) 1 space)
@@ -33,10 +33,10 @@ module _ (b l e : List ℕ) (k : ℕ) (long : replyRoom ≤ length l) where
   text-hidden h = let (a, o) = bank-refused b (part l 2) e k (room 2 (omega arith)) h in (a, put-nothing l e 2 o)
 
   module _ (n at : ℕ) (after : List ℕ) (refusal : tagOfBank b ≡ refused n) where
-    pub raw-shown : answered (Written k) e ≡ rawLine b (part l 5) → Wrote (code "R" ∷ space ∷ decimal n) (back l 5 e) at after
-        → (k ≤ 145) × (at ≡ 4) × Wrote (ofBank b (refused n)) l (k + 5) (set after at space)
+    pub raw-shown : answered (Written k) e ≡ rawLine b (part l afterNumber) → Wrote (code "R" ∷ space ∷ decimal n) (back l afterNumber e) at after
+        → (k ≤ 145) × (at ≡ 4) × Wrote (ofBank b (refused n)) l (k + afterNumber) (set after at space)
     raw-shown h w =
-        let (a, c, o) = raw-written b (part l 5) e k (room 5 (omega arith)) h in
+        let (a, c, o) = raw-written b (part l afterNumber) e k (room afterNumber (omega arith)) h in
         let (p, q) = shown-number b n refusal a in
         let two = two-digits n p q in
         let d = decimal-long n in
@@ -45,12 +45,12 @@ module _ (b l e : List ℕ) (k : ℕ) (long : replyRoom ≤ length l) where
           omega (arith, w .end),
           rw (with-raw b n p q) (record {
             end = simp length-append (omega arith);
-            bytes = raw-behind l (back l 5 e) after (rawText b) n at (omega arith) two (put-back l e 5 (rawText b) (omega arith) o) w;
+            bytes = raw-behind l (back l afterNumber e) after (rawText b) n at (omega arith) two (put-back l e afterNumber (rawText b) (omega arith) o) w;
           }),
         )
 
-    pub raw-hidden : answered (Refused k) e ≡ rawLine b (part l 5) → Wrote (code "N" ∷ space ∷ decimal n) (back l 5 e) at after → Wrote (ofBank b (refused n)) l at after
+    pub raw-hidden : answered (Refused k) e ≡ rawLine b (part l afterNumber) → Wrote (code "N" ∷ space ∷ decimal n) (back l afterNumber e) at after → Wrote (ofBank b (refused n)) l at after
     raw-hidden h w =
-        let (a, o) = raw-refused b (part l 5) e k (room 5 (omega arith)) h in
+        let (a, o) = raw-refused b (part l afterNumber) e k (room afterNumber (omega arith)) h in
         let (p, q) = hidden-number b n refusal k a in
-        rw (without-raw b n p q) (rw (put-nothing l e 5 o) at w)
+        rw (without-raw b n p q) (rw (put-nothing l e afterNumber o) at w)

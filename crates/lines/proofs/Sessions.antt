@@ -1,5 +1,5 @@
--- An input in pieces: what is printed for them, one after the other, is what is printed for the whole. A line that goes on beyond its first
--- 201 bytes is answered X, whatever follows, so nothing more of it has to be kept.
+-- An input in pieces: what is printed for them, one after the other, is what is printed for the whole. A line of more bytes than a line may
+-- have is answered X whatever follows, so no more of it has to be kept.
 use Prim.Native.Nat.{ℕ, zero, suc, _≤_, _<_}
 use mathlib.Core.Path.{_≡_, refl, sym, ap, _∙_}
 use mathlib.Core.Logic.{_⊎_, ⊎-elim, inl, inr}
@@ -15,9 +15,10 @@ use Rattle.rules.specs.Bytes.{bytes}
 use Rattle.rules.specs.TextNumbers.{after}
 use Rattle.rules.proofs.Runs.{without}
 use Rattle.rules.proofs.Tests.{both, and}
-use Rattle.lines.specs.Hex.{isBank}
-use Rattle.lines.specs.Replies.{begun, replyX, replyOf}
-use Rattle.lines.specs.Lines.{feed, printed, outputOf, whole, endReply, session, joined}
+use Rattle.lines.specs.Hex.{mostDigits, isBank}
+use Rattle.lines.specs.Replies.{mostCharacters, begun, replyX, replyOf}
+use Rattle.lines.specs.Lines.{feed, printed, outputOf}
+use Rattle.lines.specs.Turns.{whole, mostKept, endReply, Turn, turnOf, session, inputOf}
 use Rattle.lines.proofs.Splits.{Unfed, unfed-append, last-line, no-output, none-ended, first-output, first-ended}
 
 unfed-take : (n : ℕ) (l : List ℕ) → Unfed l → Unfed (take n l)
@@ -70,22 +71,22 @@ halves (suc n) t k = go (λ r. halves n r) (ended-or-not t)
               ∙ sym (append-assoc (printed l) (outputOf (whole r)) (outputOf s)) ∙ ap (_++ outputOf s) (sym (ap outputOf w ∙ first-output l (whole r) h));
         }
 
--- more than 200 bytes are neither a tag text nor a bank in hex
-long-line : (l : List ℕ) → 200 < length l → printed l ≡ replyX ++ feed ∷ []
+-- so many bytes are neither a tag text nor a bank in hex
+long-line : (l : List ℕ) → mostCharacters < length l → printed l ≡ replyX ++ feed ∷ []
 unfolding replyOf isBank
-long-line l h = rw (lt-leb (length l) 200 h, lt-leb (length l) 128 (omega arith)) (go (begun (after (bytes "urn:") l)))
+long-line l h = rw (lt-leb (length l) mostCharacters h, lt-leb (length l) mostDigits (omega arith)) (go (begun (after (bytes "urn:") l)))
   where
     go : (b : Bool) → cond b replyX replyX ++ feed ∷ [] ≡ replyX ++ feed ∷ []
     go true = refl
     go false = refl
 
-long-last : (l : List ℕ) → 200 < length l → endReply l ≡ printed l
+long-last : (l : List ℕ) → mostCharacters < length l → endReply l ≡ printed l
 long-last [] h = absurd (omega arith)
 long-last (x ∷ l) h = refl
 
 -- two lines that have not ended, both long: whatever follows, the same is printed
-module _ (a b : List ℕ) (h : Unfed a) (k : Unfed b) (m : 200 < length a) (n : 200 < length b) where
-  longer : (x y : List ℕ) → 200 < length x → 200 < length (x ++ y)
+module _ (a b : List ℕ) (h : Unfed a) (k : Unfed b) (m : mostCharacters < length a) (n : mostCharacters < length b) where
+  longer : (x y : List ℕ) → mostCharacters < length x → mostCharacters < length (x ++ y)
   longer x y l = omega (arith, length-append x y)
 
   both-long : (s : List ℕ) → outputOf (a ++ s) ≡ outputOf (b ++ s)
@@ -93,33 +94,58 @@ module _ (a b : List ℕ) (h : Unfed a) (k : Unfed b) (m : 200 < length a) (n : 
     where
       go : Ended s ⊎ Unfed s → outputOf (a ++ s) ≡ outputOf (b ++ s)
       go (inl (l, r, u, e)) =
-          let first : (x : List ℕ) → Unfed x → 200 < length x → outputOf (x ++ s) ≡ (replyX ++ feed ∷ []) ++ outputOf r = λ x v w.
+          let first : (x : List ℕ) → Unfed x → mostCharacters < length x → outputOf (x ++ s) ≡ (replyX ++ feed ∷ []) ++ outputOf r = λ x v w.
           ap (λ t. outputOf (x ++ t)) e ∙ ap outputOf (sym (append-assoc x l (feed ∷ r))) ∙ first-output (x ++ l) r (unfed-append x l v u)
           ∙ ap (_++ outputOf r) (long-line (x ++ l) (longer x l w)) in
           first a h m ∙ sym (first b k n)
       go (inr u) =
-          let last : (x : List ℕ) → Unfed x → 200 < length x → outputOf (x ++ s) ≡ replyX ++ feed ∷ [] = λ x v w.
+          let last : (x : List ℕ) → Unfed x → mostCharacters < length x → outputOf (x ++ s) ≡ replyX ++ feed ∷ [] = λ x v w.
           last-line (x ++ s) (unfed-append x s v u) ∙ long-last (x ++ s) (longer x s w) ∙ long-line (x ++ s) (longer x s w) in
           last a h m ∙ sym (last b k n)
 
--- 201 bytes of a line that has not ended do for all of it
-enough : (u s : List ℕ) → Unfed u → outputOf (take 201 u ++ s) ≡ outputOf (u ++ s)
+-- so many bytes of a line that has not ended do for all of it
+enough : (u s : List ℕ) → Unfed u → outputOf (take mostKept u ++ s) ≡ outputOf (u ++ s)
 enough u s h =
     ⊎-elim
-    (λ (l : 201 < length u). both-long (take 201 u) u (unfed-take 201 u h) h (omega (arith, length-take-le 201 u (omega arith))) (omega arith) s)
-    (λ (l : length u ≤ 201). ap (λ x. outputOf (x ++ s)) (take-all 201 u l))
-    (lt-or-ge 201 (length u))
+    (λ (l : mostKept < length u). both-long (take mostKept u) u (unfed-take mostKept u h) h (omega (arith, length-take-le mostKept u (omega arith))) (omega arith) s)
+    (λ (l : length u ≤ mostKept). ap (λ x. outputOf (x ++ s)) (take-all mostKept u l))
+    (lt-or-ge mostKept (length u))
 
-goes-on : (ps : List (List ℕ)) (u : List ℕ) → Unfed u → session (take 201 u) ps ≡ outputOf (u ++ joined ps)
-goes-on [] u h = sym (last-line (take 201 u) (unfed-take 201 u h)) ∙ ap outputOf (sym (append-nil (take 201 u))) ∙ enough u [] h
-goes-on (p ∷ ps) u h =
-    let input : List ℕ = take 201 u ++ p in
+-- a session that has ended, and what it has printed
+abbrev ended : List ℕ → Turn
+ended w = record { prints = w; keeps = []; ends = true }
+
+-- the last turn
+ends : (u : List ℕ) → Unfed u → turnOf (take mostKept u) [] ≡ ended (outputOf (u ++ []))
+ends u h = ap ended (sym (last-line (take mostKept u) (unfed-take mostKept u h)) ∙ ap outputOf (sym (append-nil (take mostKept u))) ∙ enough u [] h)
+
+goes-on : (reads : List (List ℕ)) (u : List ℕ) → Unfed u → session (take mostKept u) (reads ++ ([] ∷ [])) ≡ ended (outputOf (u ++ inputOf reads))
+goes-on [] u h = ends u h
+goes-on ([] ∷ reads) u h = ends u h
+goes-on ((x ∷ read) ∷ reads) u h =
+    let p : List ℕ = x ∷ read in
+    let input : List ℕ = take mostKept u ++ p in
+    let more : List ℕ = inputOf reads in
     let i : Halves input = halves (suc (length input)) input (omega arith) in
     let left : drop (length (whole input)) input ≡ i .rest = ap (drop (length (whole input))) (i .parts) ∙ drop-append-seam (whole input) (i .rest) in
-    ap (λ r. outputOf (whole input) ++ session (take 201 r) ps) left ∙ ap (outputOf (whole input) ++_) (goes-on ps (i .rest) (i .unended))
-    ∙ sym (i .apart (i .rest ++ joined ps)) ∙ ap outputOf (sym (append-assoc (whole input) (i .rest) (joined ps)) ∙ ap (_++ joined ps) (sym (i .parts)) ∙ append-assoc (take 201 u) p (joined ps))
-    ∙ enough u (p ++ joined ps) h
+    let all : outputOf (whole input) ++ outputOf (i .rest ++ more) ≡ outputOf (u ++ (p ++ more)) =
+    sym (i .apart (i .rest ++ more)) ∙ ap outputOf (sym (append-assoc (whole input) (i .rest) more) ∙ ap (_++ more) (sym (i .parts)) ∙ append-assoc (take mostKept u) p more)
+    ∙ enough u (p ++ more) h in
+    ap (λ r. behind (outputOf (whole input)) (session (take mostKept r) (reads ++ ([] ∷ [])))) left ∙ ap (behind (outputOf (whole input))) (goes-on reads (i .rest) (i .unended)) ∙ ap ended all
+  where
+    behind : List ℕ → Turn → Turn
+    behind w s = record { prints = w ++ s .prints; keeps = s .keeps; ends = s .ends }
 
--- an input in pieces of any sizes is answered like the whole
-pub in-pieces : (ps : List (List ℕ)) → session [] ps ≡ outputOf (joined ps)
-in-pieces ps = goes-on ps [] tt
+-- However an input is read, in pieces of any sizes: at its end the replies to all its lines are printed, and nothing is kept.
+pub in-pieces : (reads : List (List ℕ)) → session [] (reads ++ ([] ∷ [])) ≡ record { prints = outputOf (inputOf reads); keeps = []; ends = true }
+in-pieces reads = goes-on reads [] tt
+
+-- one more read
+pub one-more : (reads : List (List ℕ)) (rest last : List ℕ) → session rest reads .ends ≡ false
+    → let t = turnOf (session rest reads .keeps) last in
+    let s = session rest (reads ++ (last ∷ [])) in
+    (s .keeps ≡ t .keeps) × (s .ends ≡ t .ends)
+one-more [] rest [] h = (refl, refl)
+one-more [] rest (x ∷ last) h = (refl, refl)
+one-more ([] ∷ reads) rest last h = let z : _≡_ {A = ℕ} 0 1 = cc in absurd (omega arith)
+one-more ((x ∷ read) ∷ reads) rest last h = one-more reads (turnOf rest (x ∷ read) .keeps) last h

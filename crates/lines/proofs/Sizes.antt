@@ -28,7 +28,7 @@ use Rattle.rules.proofs.TextReads.{tag-reads}
 use Rattle.rules.proofs.Lengths.{text-length, raw-length}
 use Rattle.digits.proofs.Texts.{length-hex}
 use Rattle.lines.specs.Hex.{isBank, bytesIn, bankIn}
-use Rattle.lines.specs.Replies.{replyN, shown, ofText, ofBank, bankReply, begun, replyOf, replyX}
+use Rattle.lines.specs.Replies.{mostCharacters, replyN, shown, ofText, ofBank, bankReply, begun, replyOf, replyX}
 use Rattle.lines.specs.Lines.{feed, printed}
 use Rattle.lines.proofs.Hexes.{read-count}
 use Rattle.lines.proofs.Pieces.{decimal-long}
@@ -145,7 +145,7 @@ hex-short l = go (isBank l) refl
 
 reply-short : (l : List ℕ) → Short (length l) (replyOf l)
 unfolding replyOf
-reply-short l = go (begun (after (bytes "urn:") l)) (leb (length l) 200)
+reply-short l = go (begun (after (bytes "urn:") l)) (leb (length l) mostCharacters)
   where
     go : (t u : Bool) → Short (length l) (cond t (cond u (ofText (tagOfText l)) replyX) (bankReply (bankIn l)))
     go true true = text-short l

@@ -12,7 +12,8 @@ use Rattle.rules.specs.Bytes.{among, upto, behind}
 use Rattle.rules.proofs.Tests.{is-false, both, and}
 use Rattle.rules.proofs.Runs.{run-is, without, among-of}
 use Rattle.digits.proofs.Runs.{drop-next}
-use Rattle.lines.specs.Lines.{feed, linesOf, printed, outputOf, finished, whole, endReply}
+use Rattle.lines.specs.Lines.{feed, linesOf, printed, outputOf}
+use Rattle.lines.specs.Turns.{finished, whole, endReply}
 
 -- no line feed stands among the bytes
 abbrev pub Unfed : List ℕ → Type 0

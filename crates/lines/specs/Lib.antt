@@ -2,3 +2,4 @@
 pub mod Hex
 pub mod Replies
 pub mod Lines
+pub mod Turns

@@ -1,5 +1,5 @@
-// The reply to one line: to a tag text, to a bank in hex, to neither (document 01). Each is written from the output's start on, and its
-// length answered.
+// The reply to one line (document 01): to a tag text, to a bank in hex, or to neither. Each function writes it at the output's start and
+// answers its length.
 use super::hex;
 use super::letters::AFTER_LETTER;
 use super::letters::put_bank;
@@ -20,10 +20,10 @@ ghost use Rattle.lines.specs.Lines.{Wrote, replyRoom};
 // A line that begins `urn:` has at most so many characters.
 pub const MOST_CHARACTERS: usize = 200;
 
-// The room that the codec asks for a bank.
+// The codec asks for so much room for a bank.
 const BANK_ROOM: usize = 64;
 
-// The room that it asks for a text or a raw line.
+// The codec asks for so much room for a text or a raw line.
 const TEXT_ROOM: usize = 160;
 
 // Before a raw line stand a letter, a number of two digits, and a space behind each.
@@ -51,7 +51,7 @@ fn is_text(line: &[u8]) -> bool
     line[3] == b':'
 }
 
-// To a line that begins `urn:`.
+// The reply to a line that begins `urn:`.
 fn text_reply(line: &[u8], out: &mut [u8]) -> usize
     requires { ⌜ replyRoom ≤ length (now out) ⌝ }
     ensures { λ r. ⌜ Wrote (textReply (now (line .entry))) (now (out .entry)) r (now (out .exit)) ⌝ }
@@ -66,7 +66,7 @@ fn text_reply(line: &[u8], out: &mut [u8]) -> usize
     }
 }
 
-// To a bank that is refused. Where its raw line is refused too, there is nothing to show; any other number has two digits.
+// The reply to a bank that is refused with `number`. If its raw line is refused too, there is nothing to show; if not, the number has two digits.
 fn refused_reply(bank: &[u8], number: u8, out: &mut [u8]) -> usize
     requires { ⌜ (tagOfBank (now bank) ≡ refused number) × (replyRoom ≤ length (now out)) ⌝ }
     ensures { λ r. ⌜ Wrote (ofBank (now (bank .entry)) (refused number)) (now (out .entry)) r (now (out .exit)) ⌝ }
@@ -81,7 +81,7 @@ fn refused_reply(bank: &[u8], number: u8, out: &mut [u8]) -> usize
     }
 }
 
-// To a bank.
+// The reply to a bank.
 fn bank_reply(bank: &[u8], out: &mut [u8]) -> usize
     requires { ⌜ replyRoom ≤ length (now out) ⌝ }
     ensures { λ r. ⌜ Wrote (ofBank (now (bank .entry)) (tagOfBank (now (bank .entry)))) (now (out .entry)) r (now (out .exit)) ⌝ }
@@ -96,7 +96,7 @@ fn bank_reply(bank: &[u8], out: &mut [u8]) -> usize
     }
 }
 
-// To a line that does not begin `urn:`.
+// The reply to a line that does not begin `urn:`.
 fn hex_reply(line: &[u8], out: &mut [u8]) -> usize
     requires { ⌜ replyRoom ≤ length (now out) ⌝ }
     ensures { λ r. ⌜ Wrote (bankReply (bankIn (now (line .entry)))) (now (out .entry)) r (now (out .exit)) ⌝ }
@@ -110,7 +110,7 @@ fn hex_reply(line: &[u8], out: &mut [u8]) -> usize
     bank_reply(&bank[..n], out)
 }
 
-// To any line, without a line feed.
+// The reply to any line, without a line feed.
 pub fn write(line: &[u8], out: &mut [u8]) -> usize
     requires { ⌜ replyRoom ≤ length (now out) ⌝ }
     ensures { λ r. ⌜ Wrote (replyOf (now (line .entry))) (now (out .entry)) r (now (out .exit)) ⌝ }

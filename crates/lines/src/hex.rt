@@ -18,14 +18,14 @@ fn not_letter(c: u8) -> u8
     if b'A' <= c && c <= b'F' { 0 } else { 1 }
 }
 
-// 0 for an upper-case hex digit, 1 for any other byte: a product, which has no branch.
+// 0 for an upper-case hex digit, 1 for any other byte. The product needs no branch.
 fn not_hex(c: u8) -> u8
     ensures { λ r. ⌜ r ≡ cond (isHex c) 0 1 ⌝ }
 {
     digits::not_digit(c) * not_letter(c)
 }
 
-// Whether all bytes are hex digits. The largest answer is taken and no early end, so that the machine looks at many bytes at once.
+// Whether all bytes are hex digits. The loop does not end early, so that the machine can look at many bytes at once.
 fn all_hex(line: &[u8]) -> bool
     ensures { λ r. ⌜ r ≡ all isHex (now (line .entry)) ⌝ }
 {
@@ -52,7 +52,7 @@ pub fn is_bank(line: &[u8]) -> bool
     all_hex(line)
 }
 
-// The value of a hex digit. The lower four bits of `A` are 1, and only letters are 64 or more.
+// The value of a hex digit. A digit's lower four bits are its value; a letter's are 9 less, and only letters are 64 or more.
 fn value(c: u8) -> u8
     requires { ⌜ T (isHex c) ⌝ }
     ensures { λ r. ⌜ r ≡ hexValue c ⌝ }
@@ -60,7 +60,7 @@ fn value(c: u8) -> u8
     c % 16 + 9 * (c / 64)
 }
 
-// The bank of a line, from the lent bank's start on.
+// Writes the bank of a line at the lent bank's start.
 pub fn read(line: &[u8], bank: &mut [u8])
     requires { ⌜ T (all isHex (now line)) × (length (now line) ≤ 2 * length (now bank)) ⌝ }
     ensures { λ _. ⌜ now (bank .exit) ≡ splice (now (bank .entry)) 0 (bytesIn (now (line .entry))) ⌝ }

@@ -1,4 +1,4 @@
-// The replies by their letters, from the output's start on; each answers its length.
+// The replies, by their letters. Each function writes one at the output's start and answers its length.
 ghost use mathlib.Core.List.{_∷_};
 ghost use Prim.Native.Nat.{_+_, _*_, _≤_};
 ghost use lib.ListN.{length};
@@ -8,7 +8,7 @@ ghost use Rattle.lines.specs.Lines.{Wrote};
 // A letter and a space stand before what a reply shows.
 pub const AFTER_LETTER: usize = 2;
 
-// `X`.
+// `X`: a line of neither kind.
 pub fn put_neither(out: &mut [u8]) -> usize
     requires { ⌜ 1 ≤ length (now out) ⌝ }
     ensures { λ r. ⌜ Wrote replyX (now (out .entry)) r (now (out .exit)) ⌝ }
@@ -28,7 +28,7 @@ pub fn put_bank(bank: &[u8], out: &mut [u8]) -> usize
     AFTER_LETTER + 2 * bank.len()
 }
 
-// A letter and a number.
+// A letter and a number, which has at most three digits.
 pub fn put_number(letter: u8, number: u8, out: &mut [u8]) -> usize
     requires { ⌜ 5 ≤ length (now out) ⌝ }
     ensures { λ r. ⌜ Wrote (letter ∷ space ∷ decimal number) (now (out .entry)) r (now (out .exit)) ⌝ }

@@ -1,57 +1,83 @@
-// tagline (document 01): lines in, a reply to each out. Only reading and writing is here; `lines` has the rest.
+// tagline (document 01): lines in, a reply to each out. Only the reading and the writing are here; `lines` has the rest.
 use libc::STDIN_FILENO;
 use libc::STDOUT_FILENO;
+use lines::Turned;
 ghost use mathlib.Core.Path.{_≡_};
 ghost use Prim.Native.Nat.{_≤_, _<_};
-ghost use lib.ListN.{length};
-ghost use Rattle.lines.specs.Lines.{mostKept, inputRoom};
+ghost use lib.ListN.{length, take};
+ghost use Rattle.lines.specs.Lines.{inputRoom};
+ghost use Rattle.lines.specs.Turns.{mostKept, turnOf, Took};
+ghost use Rattle.tagline.specs.Runs.{given, OneTurn, Ran};
 
-// The bytes that are kept and those of one read, as `io::large_buffer` has room for them.
+// The size of the input's buffer (`io::large_buffer`), which holds what is kept and what a read gives.
 const INPUT: usize = 65536;
 
-// The room for the replies to them.
+// The room for the replies to a full buffer.
 const ROOM: usize = lines::GROWTH * INPUT + lines::REPLY_ROOM;
 
-// How many bytes are kept of a line that has not ended, and whether there may be more to read.
-struct Turn {
-    kept: usize,
-    more: bool,
+// The most reads that are made. Nobody meets this limit: at a read a nanosecond it takes 584 years.
+const MOST_READS: u64 = u64::MAX;
+
+// The turn for what a read has put behind the first `kept` bytes of the input. `got` is the read's answer: how many bytes these are, or -1 where
+// it failed. A read that failed counts as the end of the input.
+fn turn_for(got: isize, input: &mut [u8], kept: usize, out: &mut [u8]) -> Turned
+    requires { ⌜ (kept ≤ mostKept) × (mostKept < length (now input)) × (inputRoom (now input) ≤ length (now out)) ⌝ }
+    ensures { λ r. ⌜ Took (turnOf (take kept (now (input .entry))) (given got kept (now (input .entry)))) (now (input .entry)) (now (out .entry)) r (now (input .exit)) (now (out .exit)) ⌝ }
+{
+    let n = io::count(got, &input[kept..]);
+    let end = kept + n;
+    lines::turn(&mut input[..end], kept, out)
 }
 
-// One read behind the bytes that are kept, and the replies to the lines that have then ended.
-fn one_turn(input: &mut [u8], kept: usize, out: &mut [u8]) -> Turn
+// After a turn: how many bytes are kept, whether the input has ended, and whether all replies were written.
+struct After {
+    kept: usize,
+    ended: bool,
+    sent: bool,
+}
+
+// One turn: a read behind the kept bytes, and a write of the replies.
+fn one_turn(input: &mut [u8], kept: usize, out: &mut [u8]) -> After
     requires { ⌜ (kept ≤ mostKept) × (mostKept < length (now input)) × (inputRoom (now input) ≤ length (now out)) ⌝ }
-    ensures { λ r. ⌜ r .kept ≤ mostKept ⌝ }
+    ensures { λ r. ⌜ OneTurn (take kept (now (input .entry))) r (now (input .exit)) (now (out .exit)) ⌝ }
 {
     let got = libc::read(STDIN_FILENO, &mut input[kept..]);
-    let n = io::count(got, &input[kept..]);
-    if n == 0 {
-        return Turn { kept, more: false };
+    let turned = turn_for(got, input, kept, out);
+    let written = turned.written;
+    let sent = io::write_all(STDOUT_FILENO, &out[..written]);
+    After {
+        kept: turned.kept,
+        ended: turned.ended,
+        sent,
     }
-    let end = kept + n;
-    let done = lines::replies(&input[..end], out);
-    let written = done.written;
-    let more = io::write_all(STDOUT_FILENO, &out[..written]);
-    let rest = lines::hold(&mut input[..end], done.read);
-    Turn { kept: rest, more }
 }
 
-// Turn after turn to the end of the input: how many bytes are then kept.
-fn all_turns(input: &mut [u8], out: &mut [u8]) -> usize
+// When the program stops: how many reads it has made, whether the input has ended, and whether all replies were written.
+struct Stopped {
+    reads: u64,
+    ended: bool,
+    sent: bool,
+}
+
+// Turn after turn, to the end of the input. It stops before that only where a write fails, or after `MOST_READS` reads.
+fn all_turns(input: &mut [u8], out: &mut [u8]) -> Stopped
     requires { ⌜ (mostKept < length (now input)) × (inputRoom (now input) ≤ length (now out)) ⌝ }
-    ensures { λ r. ⌜ r ≤ mostKept ⌝ }
+    ensures { λ r. ⌜ Ran r (now (out .exit)) ⌝ }
 {
     let mut kept = 0;
-    let mut left = u64::MAX;
-    while 0 < left {
-        let t = one_turn(input, kept, out);
-        kept = t.kept;
-        if !t.more {
-            break;
+    let mut reads: u64 = 0;
+    loop {
+        let after = one_turn(input, kept, out);
+        kept = after.kept;
+        reads += 1;
+        if after.ended || !after.sent || reads == MOST_READS {
+            return Stopped {
+                reads,
+                ended: after.ended,
+                sent: after.sent,
+            };
         }
-        left -= 1;
     }
-    kept
 }
 
 fn room() -> [u8; ROOM]
@@ -63,7 +89,5 @@ fn room() -> [u8; ROOM]
 fn main() {
     let mut input = io::large_buffer();
     let mut out = room();
-    let kept = all_turns(&mut input, &mut out);
-    let n = lines::last_reply(&input[..kept], &mut out);
-    io::write_all(STDOUT_FILENO, &out[..n]);
+    all_turns(&mut input, &mut out);
 }

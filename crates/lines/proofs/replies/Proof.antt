@@ -1,14 +1,13 @@
 -- The invariant: the lines up to `read` are answered, and the next one ends at `end`.
-use Prim.Native.Nat.{ℕ, _+_, _-_, _<_}
-use mathlib.Core.Path.{_≡_, refl}
-use mathlib.Core.List.{List}
+use Prim.Native.Nat.{_+_, _-_}
+use mathlib.Core.Path.{_≡_}
 use native.Mathlib.Omega.{arith}
 use lib.ListN.{length, drop}
 use borrow.Author.Needs.{needs}
-use borrow.Author.Tests.{le-leb, lt-leb}
+use borrow.Author.Tests.{le-leb}
 use Rattle.rules.specs.Bytes.{upto}
-use Rattle.lines.specs.Lines.{feed, outputOf, whole, Wrote, ifRoom, inputRoom}
-use Rattle.lines.proofs.Pieces.{back, wrote-nothing}
+use Rattle.lines.specs.Lines.{feed, replyRoom}
+use Rattle.lines.proofs.Pieces.{part, back}
 use Rattle.lines.proofs.Passes.{Passed, passed-none, has-room, passed-more, passed-all}
 use Rattle.lines.proofs.replies.Statement.{statement}
 use Rattle.lines.proofs.replies.Tie as tie
@@ -19,40 +18,22 @@ Inv-loop input out₀ read₀ written₀ end₀ out read written end = Passed in
 abbrev μ-loop : tie.MeasureT-loop
 μ-loop input out₀ read₀ written₀ end₀ out read written end = length input - read
 
-short : (input out : List ℕ) → length out < inputRoom input
-    → (_≡_ {A = ℕ} 0 (length (ifRoom (inputRoom input) out (whole input)))) × Wrote (ifRoom (inputRoom input) out (outputOf (whole input))) out 0 out
-short input out h = rw (lt-leb (inputRoom input) (length out) h) (refl, wrote-nothing out)
-
-returns : tie.Need-returns Inv-loop μ-loop
-returns c =
-    let s = c .before .before .before in
-    short (s .args .input .now) (s .args .out .now) (omega arith)
-
-returns-2 : tie.Need-returns-2 Inv-loop μ-loop
-returns-2 c =
-    let s = c .before .before .before .before in
-    short (s .args .input .now) (s .args .out .now) (omega arith)
-
 loop-holds : tie.Need-loop-holds Inv-loop μ-loop
 loop-holds c =
-    let s = c .before .before .before .before .before in
-    (passed-none (s .args .input .now) (s .args .out .now) (omega arith), c .line-end .ensures)
-
-put-reply-requires : tie.Need-put-reply-requires Inv-loop μ-loop
-put-reply-requires c κs =
-    let a = c .before .before .before in
-    let s = a .before .before .before .before .before .before in
-    has-room (s .args .input .now) (s .args .out .now) (a .loop .out) (a .loop .read) (a .loop .written) (a .loop .inv .0)
+    let s = c .before .before .before in
+    (passed-none (s .args .input .now) (s .args .out .now) (s .pre), c .line-end .ensures)
 
 -- one more line is answered
-next : (c : tie.After-put-reply Inv-loop μ-loop) → let a = c .before .before .before .before in
-    let s = a .before .before .before .before .before .before in
-    Passed (s .args .input .now) (s .args .out .now) (back (a .loop .out) (a .loop .written) (c .put-reply .last .1 .0)) (a .loop .end + 1) (a .loop .written + c .put-reply .result)
+next : (c : tie.After-reply Inv-loop μ-loop) → let a = c .before .before .before .before in
+    let s = a .before .before .before .before in
+    Passed (s .args .input .now) (s .args .out .now) (back (a .loop .out) (a .loop .written) (c .reply .last .1 .0)) (a .loop .end + 1) (a .loop .written + c .reply .result)
 next c =
     let a = c .before .before .before .before in
-    let s = a .before .before .before .before .before .before in
-    passed-more (s .args .input .now) (s .args .out .now) (a .loop .out) (a .loop .read) (a .loop .written) (a .loop .inv .0) (a .loop .end) (a .loop .inv .1)
-    (c .before .before .before .loop-test .taken) (c .put-reply .result) (c .put-reply .last .1 .0) (c .put-reply .ensures)
+    let s = a .before .before .before .before in
+    let v = a .loop in
+    let room = has-room (s .args .input .now) (s .args .out .now) (v .out) (v .read) (v .written) (v .inv .0) in
+    passed-more (s .args .input .now) (s .args .out .now) (v .out) (v .read) (v .written) (v .inv .0) (v .end) (v .inv .1) (c .before .before .before .loop-test .taken)
+    (c .reply .result) (c .reply .last .1 .0) (rw (le-leb replyRoom (length (part (v .out) (v .written))) room) at (c .reply .ensures))
 
 add-written : tie.Need-add-written Inv-loop μ-loop
 add-written c = let n = next (c .before .before) in omega (arith, n .few, n .room, n .within)
@@ -63,13 +44,12 @@ loop-less c = let a = c .before .before .before .before .before .before .before 
 loop-again : tie.Need-loop-again Inv-loop μ-loop
 loop-again c = (next (c .before .before .before), c .line-end2 .ensures)
 
-returns-3 : tie.Need-returns-3 Inv-loop μ-loop
-returns-3 c =
+returns : tie.Need-returns Inv-loop μ-loop
+returns c =
     let a = c .before in
-    let s = a .before .before .before .before .before .before in
-    let p = a .loop .inv .0 in
-    rw (le-leb (inputRoom (s .args .input .now)) (length (s .args .out .now)) (p .room))
-    (passed-all (s .args .input .now) (s .args .out .now) (a .loop .out) (a .loop .read) (a .loop .written) p (a .loop .end) (a .loop .inv .1) (c .loop-test .left))
+    let s = a .before .before .before .before in
+    let v = a .loop in
+    passed-all (s .args .input .now) (s .args .out .now) (v .out) (v .read) (v .written) (v .inv .0) (v .end) (v .inv .1) (c .loop-test .left)
 
 pub replies-spec : {M : Type 1} → statement M
 replies-spec =
@@ -77,9 +57,6 @@ replies-spec =
     (tie.spec
     Inv-loop
     μ-loop
-    returns
-    (λ c. search needs)
-    returns-2
     (λ c κs. search needs)
     loop-holds
     (λ c. search needs)
@@ -88,11 +65,11 @@ replies-spec =
     (λ c. search needs)
     (λ c. search needs)
     (λ c. search needs)
-    put-reply-requires
+    (λ c κs. search needs)
     add-written
     (λ c. search needs)
     (λ c κs. search needs)
     loop-less
     loop-again
     (λ c. search needs)
-    returns-3)
+    returns)

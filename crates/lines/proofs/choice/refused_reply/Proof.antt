@@ -6,7 +6,7 @@ use lib.ListN.{set, length-set}
 use borrow.Author.Needs.{needs}
 use Rattle.rules.specs.Answers.{refused}
 use Rattle.lines.specs.Replies.{space, ofBank}
-use Rattle.lines.specs.Lines.{Wrote}
+use Rattle.lines.specs.Lines.{Wrote, afterNumber}
 use Rattle.lines.proofs.Screens.{raw-shown, raw-hidden}
 use Rattle.lines.proofs.choice.refused_reply.Statement.{statement}
 use Rattle.lines.proofs.choice.refused_reply.Tie as tie
@@ -15,7 +15,7 @@ use Rattle.lines.proofs.choice.refused_reply.Tie as tie
 shown : (c : tie.After-slice-known3) → let put = c .before .before .put-number in
     let n = c .before .before .before .before .before .n .given .0 .0 in
     let s = c .before .before .before .before .before .before .before .before .before .before .before .before .before in
-    (n ≤ 145) × (put .result ≡ 4) × Wrote (ofBank (s .args .bank .now) (refused (s .args .number))) (s .args .out .now) (n + 5) (set (put .last .1 .1 .0) (put .result) space)
+    (n ≤ 145) × (put .result ≡ 4) × Wrote (ofBank (s .args .bank .now) (refused (s .args .number))) (s .args .out .now) (n + afterNumber) (set (put .last .1 .1 .0) (put .result) space)
 shown c =
     let put = c .before .before .put-number in
     let n = c .before .before .before .before .before .n in

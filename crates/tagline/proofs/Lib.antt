@@ -1,0 +1,2 @@
+-- The laws of the program's turns.
+pub mod Runs

@@ -1,0 +1,103 @@
+-- The turns of the program are those of a session: the bytes that a read gave stand behind those that were kept.
+use Prim.Native.Nat.{ℕ, _+_, _-_, _≤_, _<_}
+use mathlib.Core.Path.{_≡_, refl, sym, ap, _∙_}
+use mathlib.Core.Logic.{_⊎_}
+use mathlib.Core.List.{List, [], _∷_, _++_}
+use mathlib.Core.Bool.{Bool, true, false}
+use native.Mathlib.Omega.{arith}
+use lib.IntN.{ℤ}
+use lib.Dec.{lit<, lit≤}
+use lib.ListN.{length, take, drop, length-append, length-drop}
+use lib.Seq.{take-all}
+use borrow.Rule.Slice.PartMut.{take-put}
+use Rattle.io.specs.Counts.{clamped}
+use Rattle.lines.specs.Lines.{outputOf, inputRoom}
+use Rattle.lines.specs.Turns.{mostKept, turnOf, session, inputOf, turnAt, seen, Took}
+use Rattle.lines.specs.declared.Turned.{Turned}
+use Rattle.lines.proofs.Pieces.{back, wrote-begins}
+use Rattle.lines.proofs.Turns.{on-buffer, few-kept}
+use Rattle.lines.proofs.Sessions.{in-pieces, one-more}
+use Rattle.tagline.specs.declared.After.{After}
+use Rattle.tagline.specs.declared.Stopped.{Stopped}
+use Rattle.tagline.specs.Runs.{given, OneTurn, mostReads, Ran}
+
+-- a turn on the bytes that were kept and read is one on the buffer
+module _ (got : ℤ) (n k : ℕ) (buffer out : List ℕ) (count : k ≡ clamped got (length (take (length buffer - n) (drop n buffer)))) where
+  all-given : take k (drop n buffer) ≡ given got n buffer
+  all-given =
+      let e : take (length buffer - n) (drop n buffer) ≡ drop n buffer = take-all (length buffer - n) (drop n buffer) (omega (arith, length-drop n buffer)) in
+      ap (λ m. take m (drop n buffer)) (count ∙ ap (λ l. clamped got (length l)) e)
+
+  pub for-given : (r : Turned) (start out′ : List ℕ) → n + k ≤ length buffer → inputRoom buffer ≤ length out → length start ≡ length (take (n + k) buffer)
+      → let input = take (n + k) buffer in
+      Took (turnAt n (seen input out)) input out r start out′
+      → Took (turnOf (take n buffer) (given got n buffer)) buffer out r (start ++ drop (n + k) buffer) out′
+  for-given r start out′ h room l t = rw all-given at (on-buffer n k buffer out r start out′ h room l t)
+
+-- whatever e the read put behind the first n bytes of l, they stay, and the turn is one for some bytes
+pub for-some : (got : ℤ) (n : ℕ) (l e out : List ℕ) (r : Turned) (sent : Bool) (input′ out′ : List ℕ) → n ≤ length l
+    → let buffer = back l n e in
+    Took (turnOf (take n buffer) (given got n buffer)) buffer out r input′ out′ → OneTurn (take n l) (record { kept = r .kept; ended = r .ended; sent = sent }) input′ out′
+for-some got n l e out r sent input′ out′ h t =
+    let buffer : List ℕ = back l n e in
+    let read : List ℕ = given got n buffer in
+    let rest : List ℕ = take n l in
+    let u = rw (take-put n (length l - n) l e h) at t in
+    record {
+      read = read;
+      printed = wrote-begins (turnOf rest read .prints) out out′ (r .written) (u .printed);
+      kept = wrote-begins (turnOf rest read .keeps) buffer input′ (r .kept) (u .kept);
+      count = omega (arith, u .kept .end);
+      ended = u .ended;
+    }
+
+-- THE LOOP
+
+-- the reads so far, none of which was the last
+pub record Going (input : List ℕ) (kept reads : ℕ) : Type 0 where
+  pub gave : List (List ℕ)
+  pub count : reads ≡ length gave
+  pub going : session [] gave .ends ≡ false
+  pub rest : session [] gave .keeps ≡ take kept input
+  pub few : kept ≤ mostKept
+  pub left : reads < mostReads
+
+pub at-start : (input : List ℕ) → Going input 0 0
+at-start input = record { gave = []; count = refl; going = refl; rest = refl; few = lit≤ tt; left = lit< tt }
+
+module _ (input input′ out : List ℕ) (kept reads : ℕ) (g : Going input kept reads) (d : After) (t : OneTurn (take kept input) d input′ out) where
+  rest-is : turnOf (take kept input) (t .read) ≡ turnOf (session [] (g .gave) .keeps) (t .read)
+  rest-is = ap (λ r. turnOf r (t .read)) (sym (g .rest))
+
+  pub reads-on : d .ended ≡ false → reads + 1 < mostReads → Going input′ (d .kept) (reads + 1)
+  reads-on e l =
+      let (k, f) = one-more (g .gave) [] (t .read) (g .going) in
+      record {
+        gave = g .gave ++ (t .read ∷ []);
+        count = simp length-append (omega (arith, g .count));
+        going = f ∙ sym (ap (λ x. x .ends) rest-is) ∙ sym (t .ended) ∙ e;
+        rest = k ∙ sym (ap (λ x. x .keeps) rest-is) ∙ sym (t .kept) ∙ ap (λ n. take n input′) (sym (t .count));
+        few = omega (arith, t .count, few-kept (take kept input) (t .read));
+        left = l;
+      }
+
+  pub stops : (d .ended ≡ true) ⊎ (d .sent ≡ false) ⊎ (reads + 1 ≡ mostReads) → Ran (record { reads = reads + 1; ended = d .ended; sent = d .sent }) out
+  stops why = record {
+    before = g .gave;
+    last = t .read;
+    count = omega (arith, g .count);
+    going = g .going;
+    printed = rw (ap (λ x. x .prints) rest-is) at (t .printed);
+    ended = t .ended ∙ ap (λ x. x .ends) rest-is ∙ sym (one-more (g .gave) [] (t .read) (g .going) .1);
+    why = why;
+  }
+
+-- where the input has ended, the turns have printed the replies to all of it
+pub all-answered : (r : Stopped) (out : List ℕ) (x : Ran r out) → r .ended ≡ true → session [] (x .before ++ (x .last ∷ [])) .prints ≡ outputOf (inputOf (x .before))
+all-answered r out x e =
+    let end = nothing (session [] (x .before) .keeps) (x .last) (sym (one-more (x .before) [] (x .last) (x .going) .1) ∙ sym (x .ended) ∙ e) in
+    rw (end, in-pieces (x .before))
+  where
+    nothing : (rest read : List ℕ) → turnOf rest read .ends ≡ true → read ≡ []
+    nothing rest [] h = refl
+    nothing rest (x ∷ read) h = let z : _≡_ {A = ℕ} 0 1 = cc in absurd (omega arith)
