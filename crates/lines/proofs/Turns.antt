@@ -62,8 +62,8 @@ on-buffer n k buffer out r start out′ h room l t =
     record { printed = u .printed; kept = wrote-part (turnOf (take n buffer) (take k (drop n buffer)) .keeps) buffer start (n + k) (r .kept) (u .kept) l; ended = u .ended }
 
 -- no second answer, input and output keep what `Took` says
-pub one-turn : (t : Turn) (input out : List ℕ) (r s : Turned) (i j o p : List ℕ) → Took t input out r i o → Took t input out s j p → (r ≡ s) × (i ≡ j) × (o ≡ p)
-one-turn t input out r s i j o p x y =
+pub one-answer-of-turn : (t : Turn) (input out : List ℕ) (r s : Turned) (i j o p : List ℕ) → Took t input out r i o → Took t input out s j p → (r ≡ s) × (i ≡ j) × (o ≡ p)
+one-answer-of-turn t input out r s i j o p x y =
     let (k, e) = one-writing (t .keeps) input (r .kept) (s .kept) i j (x .kept) (y .kept) in
     let (w, f) = one-writing (t .prints) out (r .written) (s .written) o p (x .printed) (y .printed) in
     let d = x .ended ∙ sym (y .ended) in

@@ -7,6 +7,7 @@ use lib.Dec.{leb, eqb}
 use lib.ListN.{length}
 use Rattle.rules.specs.Bytes.{bytes, all, among, upto, hexDigits}
 
+-- an upper-case hex digit
 unfoldable pub isHex : ℕ → Bool
 isHex c = among c hexDigits
 
@@ -24,12 +25,13 @@ bytesIn [] = []
 bytesIn (h ∷ []) = []
 bytesIn (h ∷ l ∷ t) = (16 * hexValue h + hexValue l) ∷ bytesIn t
 
--- a line has at most so many
+-- a line has at most so many digits
 abbrev pub mostDigits : ℕ
 mostDigits = 128
 
 unfoldable pub isBank : List ℕ → Bool
 isBank l = leb (length l) mostDigits && eqb (length l % 2) 0 && all isHex l
 
+-- the bank of a line that is one
 abbrev pub bankIn : List ℕ → Option (List ℕ)
 bankIn l = cond (isBank l) (some (bytesIn l)) none

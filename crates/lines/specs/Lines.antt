@@ -36,7 +36,7 @@ outputOf input = each (linesOf input)
 
 -- WRITING
 
--- w is written from an output's start on, and n is its length
+-- w was written at the start of `out`, which is `after` then; n is its length
 abbrev pub Wrote : List ℕ → List ℕ → ℕ → List ℕ → Type 0
 Wrote w out n after = Puts w 0 out n after
 
@@ -44,7 +44,7 @@ Wrote w out n after = Puts w 0 out n after
 abbrev pub ifRoom : ℕ → List ℕ → List ℕ → List ℕ
 ifRoom room out w = cond (leb room (length out)) w []
 
--- before a raw line stand a letter, a number of two digits, and a space behind each
+-- so many bytes stand before a raw line: a letter, a number of two digits, and a space behind each
 abbrev pub afterNumber : ℕ
 afterNumber = 5
 
@@ -52,7 +52,7 @@ afterNumber = 5
 abbrev pub replyRoom : ℕ
 replyRoom = afterNumber + textRoom
 
--- a reply with its line feed has at most four times the bytes of its line with its own
+-- a reply with its line feed is at most so many times as long as its line with its own
 abbrev pub growth : ℕ
 growth = 4
 

@@ -48,10 +48,12 @@ abbrev pub shown : ℕ → List ℕ → List ℕ
 shown n [] = replyN n
 shown n (x ∷ xs) = replyR n (x ∷ xs)
 
+-- to a text, by what its tag is or the number that refuses it
 abbrev pub ofText : Answer Tag → List ℕ
 ofText (taken τ) = replyB (bankOf τ)
 ofText (refused n) = replyN n
 
+-- to a bank, in the same way
 abbrev pub ofBank : List ℕ → Answer Tag → List ℕ
 ofBank b (taken τ) = replyT (textOf τ)
 ofBank b (refused n) = shown n (screen [] (rawText b) n)
@@ -60,10 +62,11 @@ ofBank b (refused n) = shown n (screen [] (rawText b) n)
 abbrev pub mostCharacters : ℕ
 mostCharacters = 200
 
+-- to a line that begins `urn:`
 abbrev pub textReply : List ℕ → List ℕ
 textReply l = cond (leb (length l) mostCharacters) (ofText (tagOfText l)) replyX
 
--- any other holds a bank in hex
+-- to any other line, by the bank that it holds
 abbrev pub bankReply : Option (List ℕ) → List ℕ
 bankReply (some b) = ofBank b (tagOfBank b)
 bankReply none = replyX
@@ -73,5 +76,6 @@ abbrev pub begun : Option (List ℕ) → Bool
 begun none = false
 begun (some rest) = true
 
+-- to any line
 unfoldable pub replyOf : List ℕ → List ℕ
 replyOf l = cond (begun (after (bytes "urn:") l)) (textReply l) (bankReply (bankIn l))

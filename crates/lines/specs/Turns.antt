@@ -64,7 +64,7 @@ inputOf ((x ∷ read) ∷ reads) = (x ∷ read) ++ inputOf reads
 abbrev pub turnAt : ℕ → List ℕ → Turn
 turnAt n input = turnOf (take n input) (drop n input)
 
--- the input, if the output has the room for its replies; no bytes, if it is shorter
+-- what a call looks at: the input, if the output has the room for its replies; no bytes, if it is shorter
 abbrev pub seen : List ℕ → List ℕ → List ℕ
 seen input out = ifRoom (inputRoom input) out input
 

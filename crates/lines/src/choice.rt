@@ -20,13 +20,13 @@ ghost use Rattle.lines.specs.Lines.{Wrote, replyRoom};
 // A line that begins `urn:` has at most so many characters.
 pub const MOST_CHARACTERS: usize = 200;
 
-// The codec asks for so much room for a bank.
+// The codec asks for so many bytes of room for a bank.
 const BANK_ROOM: usize = 64;
 
-// The codec asks for so much room for a text or a raw line.
+// And for so many for a text or a raw line.
 const TEXT_ROOM: usize = 160;
 
-// Before a raw line stand a letter, a number of two digits, and a space behind each.
+// So many bytes stand before a raw line: a letter, a number of two digits, and a space behind each.
 const AFTER_NUMBER: usize = 5;
 
 // The room for any reply, with its line feed.

@@ -5,7 +5,7 @@ ghost use lib.ListN.{length};
 ghost use Rattle.lines.specs.Replies.{space, decimal, replyB, replyX};
 ghost use Rattle.lines.specs.Lines.{Wrote};
 
-// A letter and a space stand before what a reply shows.
+// So many bytes stand before what a reply shows: a letter and a space.
 pub const AFTER_LETTER: usize = 2;
 
 // `X`: a line of neither kind.

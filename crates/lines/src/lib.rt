@@ -113,8 +113,8 @@ pub struct Turned {
 }
 
 // One turn of a session. The first `kept` bytes of the input are those that the turn before kept, and the others were just read. If there are
-// no others, the input has ended. An output shorter than `GROWTH` times the input and `REPLY_ROOM` gets nothing: the turn is then that of an
-// empty input, and so the last.
+// no others, the input has ended. An output shorter than `GROWTH` times the input and `REPLY_ROOM` more gets nothing: the turn is then that of
+// an empty input, and so the last.
 pub fn turn(input: &mut [u8], kept: usize, out: &mut [u8]) -> Turned
     ensures { λ r. ⌜ Took (turnAt kept (seen (now (input .entry)) (now (out .entry)))) (now (input .entry)) (now (out .entry)) r (now (input .exit)) (now (out .exit)) ⌝ }
 {
