@@ -8,13 +8,12 @@ use lib.Dec.{T, leb, ltb, eqb, eqb→eq, leb→le, ltb→lt}
 use lib.ListN.{length, take, drop, getD, set}
 use lib.Seq.{take-at}
 use Rattle.numeral.specs.Numeral.{splice}
-use Rattle.numeral.proofs.Splices.{splice-snoc, length-splice}
+use Rattle.numeral.proofs.Splices.{splice-snoc, length-splice, splice-front}
 use Rattle.rules.specs.Bytes.{all, hexDigits}
 use Rattle.rules.specs.Calls.{bankRoom}
 use Rattle.rules.specs.TextNumbers.{isDigit}
 use Rattle.rules.proofs.Tests.{both, all-among, below-is}
 use Rattle.digits.proofs.Alls.{wrongOf}
-use Rattle.lines.proofs.Pieces.{splice-front}
 use Rattle.lines.specs.Hex.{isHex, isLetter, hexValue, bytesIn, mostDigits, isBank}
 
 -- Which bytes are letters, and which are digits: two tests over the 256 bytes.

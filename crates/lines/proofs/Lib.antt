@@ -1,7 +1,6 @@
 -- The laws of lines and replies.
 pub mod Hexes
 pub mod Pieces
-pub mod Starts
 pub mod Answered
 pub mod Refusals
 pub mod Screens

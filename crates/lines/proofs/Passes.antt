@@ -7,11 +7,11 @@ use lib.ListN.{length, take, drop, length-append, take-append-drop}
 use lib.Seq.{drop-drop, length-take-le}
 use borrow.Rule.Slice.PartMut.{mid-len}
 use Rattle.numeral.specs.Numeral.{splice}
-use Rattle.numeral.proofs.Splices.{length-splice, take-splice, drop-splice}
+use Rattle.numeral.proofs.Splices.{length-splice, take-splice, drop-splice, splice-front}
 use Rattle.rules.specs.Bytes.{upto}
 use Rattle.lines.specs.Lines.{feed, printed, outputOf, Wrote, replyRoom, inputRoom}
 use Rattle.lines.specs.Turns.{whole}
-use Rattle.lines.proofs.Pieces.{splice-front, part, back, put-back}
+use Rattle.lines.proofs.Pieces.{part, back, put-back}
 use Rattle.lines.proofs.Sizes.{printed-long}
 use Rattle.lines.proofs.Splits.{no-output, none-ended, not-ended, the-line, ended-is, output-is}
 

@@ -5,7 +5,6 @@ use mathlib.Core.Path.{_≡_, refl, sym, ap, ap₂, _∙_}
 use mathlib.Core.Logic.{⊎-elim}
 use mathlib.Core.List.{List, [], _∷_, _++_, append-assoc, append-nil}
 use native.Mathlib.Omega.{arith}
-use native.Mathlib.Nat.{zero-add}
 use native.Mathlib.Numerals.{add-one}
 use lib.Dec.{lit<}
 use lib.ListN.{length, take, drop, getD, set, length-append, length-take, length-drop, take-append-drop, drop-of-length-le}
@@ -13,15 +12,11 @@ use lib.Seq.{take-all, take-suc, take-append-seam, drop-append-le, drop-drop, ap
 use borrow.Rule.Slice.PartMut.{midOf, postOf, putMid, put-same}
 use Rattle.numeral.specs.Numeral.{splice, size, shortest}
 use Rattle.numeral.proofs.Shortest.{length-shortest, size-le}
-use Rattle.numeral.proofs.Splices.{splice-one, splice-snoc, splice-after, splice-nil, drop-to-splice, length-splice}
+use Rattle.numeral.proofs.Splices.{splice-one, splice-snoc, splice-after, splice-nil, drop-to-splice, length-splice, splice-front}
 use Rattle.numeral.proofs.Arithmetic.{lt-or-ge}
 use Rattle.digits.proofs.Texts.{length-text}
 use Rattle.lines.specs.Replies.{space, decimal, replyR}
 use Rattle.lines.specs.Lines.{Wrote, afterNumber}
-
-pub splice-front : (l x : List ℕ) → splice l 0 x ≡ x ++ drop (length x) l
-unfolding splice
-splice-front l x = rw (zero-add (length x))
 
 -- a number's digits
 module _ (n : ℕ) where

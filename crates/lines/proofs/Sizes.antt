@@ -27,8 +27,9 @@ use Rattle.rules.proofs.BankReads.{bank-reads, at-lt}
 use Rattle.rules.proofs.TextReads.{tag-reads}
 use Rattle.rules.proofs.Lengths.{text-length, raw-length}
 use Rattle.digits.proofs.Texts.{length-hex}
+use Rattle.digits.specs.Starts.{begun}
 use Rattle.lines.specs.Hex.{isBank, bytesIn, bankIn}
-use Rattle.lines.specs.Replies.{mostCharacters, replyN, shown, ofText, ofBank, bankReply, begun, replyOf, replyX}
+use Rattle.lines.specs.Replies.{mostCharacters, replyN, shown, ofText, ofBank, bankReply, replyOf, replyX}
 use Rattle.lines.specs.Lines.{feed, printed}
 use Rattle.lines.proofs.Hexes.{read-count}
 use Rattle.lines.proofs.Pieces.{decimal-long}

@@ -3,7 +3,7 @@ use Prim.Native.Nat.{ℕ}
 use Prim.Native.Char.{code}
 use mathlib.Core.List.{List, [], _∷_, _++_}
 use mathlib.Core.Option.{Option, none, some}
-use mathlib.Core.Bool.{Bool, true, false, cond}
+use mathlib.Core.Bool.{cond}
 use lib.Dec.{leb}
 use lib.ListN.{length}
 use Rattle.numeral.specs.Numeral.{shortest}
@@ -15,6 +15,7 @@ use Rattle.rules.specs.TextNumbers.{after, tagOfText}
 use Rattle.rules.specs.BankNumbers.{tagOfBank}
 use Rattle.rules.specs.Raw.{rawText}
 use Rattle.rules.specs.Screen.{screen}
+use Rattle.digits.specs.Starts.{begun}
 use Rattle.lines.specs.Hex.{bankIn}
 
 abbrev pub space : ℕ
@@ -70,11 +71,6 @@ textReply l = cond (leb (length l) mostCharacters) (ofText (tagOfText l)) replyX
 abbrev pub bankReply : Option (List ℕ) → List ℕ
 bankReply (some b) = ofBank b (tagOfBank b)
 bankReply none = replyX
-
--- whether a text begins so
-abbrev pub begun : Option (List ℕ) → Bool
-begun none = false
-begun (some rest) = true
 
 -- to any line
 unfoldable pub replyOf : List ℕ → List ℕ

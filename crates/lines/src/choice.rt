@@ -10,11 +10,9 @@ ghost use mathlib.Core.Path.{_≡_};
 ghost use Prim.Native.Nat.{_≤_};
 ghost use lib.ListN.{length};
 ghost use Rattle.rules.specs.Answers.{refused};
-ghost use Rattle.rules.specs.Bytes.{bytes};
-ghost use Rattle.rules.specs.TextNumbers.{after};
 ghost use Rattle.rules.specs.BankNumbers.{tagOfBank};
 ghost use Rattle.lines.specs.Hex.{bankIn};
-ghost use Rattle.lines.specs.Replies.{ofBank, textReply, bankReply, begun, replyOf};
+ghost use Rattle.lines.specs.Replies.{ofBank, textReply, bankReply, replyOf};
 ghost use Rattle.lines.specs.Lines.{Wrote, replyRoom};
 
 // A line that begins `urn:` has at most so many characters.
@@ -31,25 +29,6 @@ const AFTER_NUMBER: usize = 5;
 
 // The room for any reply, with its line feed.
 pub const REPLY_ROOM: usize = AFTER_NUMBER + TEXT_ROOM;
-
-// Whether a line begins `urn:`.
-fn is_text(line: &[u8]) -> bool
-    ensures { λ r. ⌜ r ≡ begun (after (bytes "urn:") (now (line .entry))) ⌝ }
-{
-    if line.len() < 4 {
-        return false;
-    }
-    if line[0] != b'u' {
-        return false;
-    }
-    if line[1] != b'r' {
-        return false;
-    }
-    if line[2] != b'n' {
-        return false;
-    }
-    line[3] == b':'
-}
 
 // The reply to a line that begins `urn:`.
 fn text_reply(line: &[u8], out: &mut [u8]) -> usize
@@ -115,7 +94,7 @@ pub fn write(line: &[u8], out: &mut [u8]) -> usize
     requires { ⌜ replyRoom ≤ length (now out) ⌝ }
     ensures { λ r. ⌜ Wrote (replyOf (now (line .entry))) (now (out .entry)) r (now (out .exit)) ⌝ }
 {
-    if is_text(line) {
+    if digits::begins(line, b"urn:") {
         return text_reply(line, out);
     }
     hex_reply(line, out)

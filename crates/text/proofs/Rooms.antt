@@ -8,25 +8,18 @@ use Rattle.numeral.specs.Numeral.{size}
 use Rattle.numeral.proofs.Shortest.{size-le}
 use Rattle.rules.specs.declared.Scheme.{Scheme}
 use Rattle.rules.specs.declared.Table.{Table}
-use Rattle.rules.specs.declared.Table.the-variants.{A, B, C, D}
-use Rattle.rules.specs.Schemes.{rows, cell, rowOf, partition}
+use Rattle.rules.specs.Schemes.{cell, rowOf, partition}
 use Rattle.rules.specs.Grammar.{label}
-use Rattle.rules.proofs.Rows.{AllRows, by-row, row-picked}
+use Rattle.rules.proofs.Rows.{row-picked}
+use Rattle.scheme.proofs.Widths.{few-digits}
 use Rattle.text.specs.Names.{restOf}
 use Rattle.text.proofs.Keys.{sound}
 
 pub label-short : (s : Scheme) → length (label s) ≤ 10
 label-short s = rw (sound s .whole, length-append (restOf s)) (omega (arith, sound s .short))
 
-few-digits : (t : Table) → AllRows (λ P r. cell t r .1 ≤ 11) 0 rows
-unfolding rows
-few-digits A = omega arith
-few-digits B = omega arith
-few-digits C = omega arith
-few-digits D = omega arith
-
 pub reference-short : (t : Table) (n : ℕ) → 6 ≤ n → n ≤ 12 → cell t (rowOf n) .1 ≤ 11
-reference-short t n l u = by-row (λ P r. cell t r .1 ≤ 11) (few-digits t) (partition n) (row-picked n l u .0)
+reference-short t n l u = few-digits t (partition n) (row-picked n l u .0)
 
 -- a word's digits
 pub word-short : (v : ℕ) → v < 2 ^ 64 → size 10 v ≤ 20

@@ -1,14 +1,11 @@
 -- How a text begins, byte by byte.
-use Prim.Native.Nat.{ℕ, _+_, _≤_, _<_}
+use Prim.Native.Nat.{ℕ, _+_, _≤_}
 use mathlib.Core.Path.{_≡_, refl, sym, ap, _∙_}
-use mathlib.Core.Bool.{true, false}
 use mathlib.Core.List.{List, _++_}
 use mathlib.Core.Option.{Option, none, some}
 use native.Mathlib.Omega.{arith}
-use native.Mathlib.Numerals.{add-one}
-use lib.ListN.{length, drop, getD, length-append, length-drop}
-use lib.Seq.{drop-cons, drop-at, drop-drop}
-use borrow.Author.Tests.{eq-eqb, ne-eqb}
+use lib.ListN.{length, drop, length-append, length-drop}
+use lib.Seq.{drop-at, drop-drop}
 use Rattle.rules.specs.declared.Scheme.{Scheme}
 use Rattle.rules.specs.Schemes.{schemes}
 use Rattle.rules.specs.Grammar.{start, label, layout}
@@ -16,25 +13,9 @@ use Rattle.rules.specs.TextNumbers.{after, Named, named, partsIn, tagOfText}
 use Rattle.scheme.specs.Records.{refusal, readingOf}
 use Rattle.text.specs.declared.names.Named.the-variants.{Is, Unlisted}
 use Rattle.text.specs.Names.{namedBy, namedAt}
-use Rattle.text.specs.Reading.{begun, readAs}
+use Rattle.text.specs.Reading.{readAs}
 use Rattle.rules.proofs.Answers.{Gives}
-use Rattle.rules.proofs.TextReads.{after-is, named-is}
-
--- a shorter text does not begin with s
-pub short : (s t : List ℕ) → length t < length s → after s t ≡ none
-short s t l = go (after s t) (after-is s t)
-  where
-    go : (o : Option (List ℕ)) → Gives (λ u. t ≡ s ++ u) o → o ≡ none
-    go none h = refl
-    go (some u) h = absurd (omega (arith, ap length h, length-append s u))
-
--- the bytes at i
-module _ (s t : List ℕ) (i : ℕ) (in-s : i < length s) (in-t : i < length t) where
-  pub agrees : getD t i 0 ≡ getD s i 0 → after (drop i s) (drop i t) ≡ after (drop (i + 1) s) (drop (i + 1) t)
-  agrees e = rw (add-one i, drop-cons s i 0 in-s, drop-cons t i 0 in-t, eq-eqb (getD s i 0) (getD t i 0) (sym e))
-
-  pub differs : ¬ (getD t i 0 ≡ getD s i 0) → after (drop i s) (drop i t) ≡ none
-  differs n = rw (drop-cons s i 0 in-s, drop-cons t i 0 in-t, ne-eqb (getD s i 0) (getD t i 0) (λ e. n (sym e)))
+use Rattle.rules.proofs.TextReads.{named-is}
 
 -- The whole text: its start, and the name behind it.
 pub twelve : length start ≡ 12
@@ -42,21 +23,9 @@ unfolding start
 twelve = refl
 
 module _ (t : List ℕ) where
-  pub no-start : begun (after start t) ≡ false → refusal 2 ≡ readingOf (tagOfText t)
+  pub no-start : after start t ≡ none → refusal 2 ≡ readingOf (tagOfText t)
   unfolding tagOfText
-  no-start e = go (after start t) refl e
-    where
-      go : (o : Option (List ℕ)) → after start t ≡ o → begun o ≡ false → refusal 2 ≡ readingOf (tagOfText t)
-      go none q h = rw q
-      go (some u) q h = let x : _≡_ {A = ℕ} 0 1 = cc in absurd (omega arith)
-
-  pub started : begun (after start t) ≡ true → (after start t ≡ some (drop 12 t)) × (12 ≤ length t)
-  started e = go (after start t) refl (after-is start t) e
-    where
-      go : (o : Option (List ℕ)) → after start t ≡ o → Gives (λ u. t ≡ start ++ u) o → begun o ≡ true → (after start t ≡ some (drop 12 t)) × (12 ≤ length t)
-      go none q h b = let x : _≡_ {A = ℕ} 0 1 = cc in absurd (omega arith)
-      go (some u) q h b =
-          (q ∙ ap some (sym (ap (drop 12) h ∙ drop-at start u 12 twelve)), omega (arith, ap length h, length-append start u, twelve))
+  no-start e = rw e
 
   module _ (begins : after start t ≡ some (drop 12 t)) (long : 12 ≤ length t) where
     pub no-name : Unlisted ≡ namedAt 12 (drop 12 t) → refusal 3 ≡ readingOf (tagOfText t)

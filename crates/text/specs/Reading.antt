@@ -1,8 +1,6 @@
 -- The parts of a text as the code holds them: what follows the company prefix, then the whole record.
 use Prim.Native.Nat.{ℕ}
-use mathlib.Core.Bool.{Bool, true, false}
 use mathlib.Core.List.{List, []}
-use mathlib.Core.Option.{Option, none, some}
 use lib.ListN.{length}
 use Rattle.rules.specs.declared.Scheme.{Scheme}
 use Rattle.rules.specs.declared.Last.{Last}
@@ -14,10 +12,6 @@ use Rattle.rules.specs.Grammar.{reference, last, Layout, part, end}
 use Rattle.scheme.specs.declared.record.Reading.{Reading}
 use Rattle.scheme.specs.Records.{partAt, valueAt, lastNumber, lastCharacters, padded, refusal, readingOf}
 use Rattle.text.specs.declared.reading.Head.{Head}
-
-abbrev pub begun : Option (List ℕ) → Bool
-begun none = false
-begun (some u) = true
 
 -- the record of what is read: its head, the reference, and the last part as an integer or as characters
 abbrev pub taggedWith : Head → ℕ → ℕ → List ℕ → ℕ → Reading

@@ -26,23 +26,18 @@ ghost use Rattle.rules.specs.Grammar.{reference as referenceRole, last, end, bo
 ghost use Rattle.rules.specs.TextNumbers.{after, partsIn, tagOfText};
 ghost use Rattle.scheme.specs.Outlines.{Narrow};
 ghost use Rattle.scheme.specs.Records.{readingOf};
+ghost use Rattle.digits.specs.Starts.{begun};
 ghost use Rattle.text.specs.Parts.{formOf, Short};
-ghost use Rattle.text.specs.Reading.{begun, taggedWith, referred, withLast, referenceAlone, assetAlone, behindPrefix, readAs};
+ghost use Rattle.text.specs.Reading.{taggedWith, referred, withLast, referenceAlone, assetAlone, behindPrefix, readAs};
+
+// How many characters `urn:epc:tag:` has.
+const START: usize = 12;
 
 // Whether a text begins with `urn:epc:tag:`.
 fn begins(text: &[u8]) -> bool
     ensures { λ r. ⌜ r ≡ begun (after start (now (text .entry))) ⌝ }
 {
-    let start = b"urn:epc:tag:";
-    if text.len() < 12 {
-        return false;
-    }
-    for i in 0..12 {
-        if text[i] != start[i] {
-            return false;
-        }
-    }
-    true
+    digits::begins(text, b"urn:epc:tag:")
 }
 
 // What stands before the reference. For gid-96 `prefix` is its first integer, and `filter` and `digits` are 0.
@@ -211,7 +206,7 @@ pub fn read(text: &[u8]) -> Reading
     if !begins(text) {
         return refused(refusal::START);
     }
-    match name(text, 12) {
+    match name(text, START) {
         Named::Is(s, next) => parts_at(text, next, s),
         Named::Unlisted => refused(refusal::NAME),
     }

@@ -9,18 +9,19 @@ a-text : tie.Need-returns
 unfolding replyOf
 a-text c =
     let t = c .before .before .before .before in
-    rw (sym (t .before .is-text .ensures) ∙ t .if1 .taken) (c .before .before .text-reply .ensures)
+    rw (sym (t .before .begins .ensures) ∙ t .if1 .taken) (c .before .before .text-reply .ensures)
 
 another : tie.Need-returns-2
 unfolding replyOf
 another c =
     let t = c .before .before .before .before in
-    rw (sym (t .before .is-text .ensures) ∙ t .if1 .left) (c .before .before .hex-reply .ensures)
+    rw (sym (t .before .begins .ensures) ∙ t .if1 .left) (c .before .before .hex-reply .ensures)
 
 pub write-spec : {M : Type 1} → statement M
 write-spec =
     tie.close
     (tie.spec
+    (λ c. search needs)
     (λ c κs. search needs)
     (λ c κs. search needs)
     (λ c. search needs)

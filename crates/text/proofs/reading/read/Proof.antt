@@ -7,39 +7,41 @@ use borrow.Author.Tests.{not-true, not-false}
 use lib.ListN.{length, drop}
 use Rattle.rules.specs.Grammar.{start}
 use Rattle.rules.specs.TextNumbers.{after}
-use Rattle.text.proofs.Starts.{no-start, started, no-name, name-is, with-name}
+use Rattle.digits.proofs.Starts.{begun-is, begun-not}
+use Rattle.text.proofs.Starts.{twelve, no-start, no-name, name-is, with-name}
 use Rattle.text.proofs.reading.read.Statement.{statement}
 use Rattle.text.proofs.reading.read.Tie as tie
 
 returns : tie.Need-returns
 returns c =
     let b = c .before .before in
-    c .refused .ensures ∙ no-start (b .before .before .args .text .now) (sym (b .begins .ensures) ∙ not-true _ (c .before .if1 .taken))
+    let t = b .before .before .args .text .now in
+    c .refused .ensures ∙ no-start t (begun-not start t (sym (b .begins .ensures) ∙ not-true _ (c .before .if1 .taken)))
 
 -- the start, from the place where it is seen
-begun : (c : tie.Else1) → let t = c .before .before .before .args .text .now in (after start t ≡ some (drop 12 t)) × (12 ≤ length t)
-begun c = started (c .before .before .before .args .text .now) (sym (c .before .begins .ensures) ∙ not-false _ (c .if1 .left))
+begins : (c : tie.Else1) → let t = c .before .before .before .args .text .now in (12 ≤ length t) × (after start t ≡ some (drop 12 t))
+begins c = begun-is start (c .before .before .before .args .text .now) 12 twelve (sym (c .before .begins .ensures) ∙ not-false _ (c .if1 .left))
 
 inside : tie.Need-parts-at-requires
 inside c κs =
     let n = c .before in
     let m = n .before .before in
     let t = m .before .before .before .before .args .text .now in
-    name-is t (begun (m .before) .0) (begun (m .before) .1) (n .s .given .0 .0) (n .s .given .0 .1 .0) (sym (n .s .given .1) ∙ m .name .ensures) .1
+    name-is t (begins (m .before) .1) (begins (m .before) .0) (n .s .given .0 .0) (n .s .given .0 .1 .0) (sym (n .s .given .1) ∙ m .name .ensures) .1
 
 returns-2 : tie.Need-returns-2
 returns-2 c =
     let n = c .before .before in
     let m = n .before .before in
     let t = m .before .before .before .before .args .text .now in
-    let named = name-is t (begun (m .before) .0) (begun (m .before) .1) (n .s .given .0 .0) (n .s .given .0 .1 .0) (sym (n .s .given .1) ∙ m .name .ensures) .0 in
-    c .parts-at .ensures ∙ with-name t (begun (m .before) .0) (begun (m .before) .1) _ _ named
+    let named = name-is t (begins (m .before) .1) (begins (m .before) .0) (n .s .given .0 .0) (n .s .given .0 .1 .0) (sym (n .s .given .1) ∙ m .name .ensures) .0 in
+    c .parts-at .ensures ∙ with-name t (begins (m .before) .1) (begins (m .before) .0) _ _ named
 
 returns-3 : tie.Need-returns-3
 returns-3 c =
     let m = c .before .before .before in
     let t = m .before .before .before .before .args .text .now in
-    c .refused2 .ensures ∙ no-name t (begun (m .before) .0) (begun (m .before) .1) (sym (c .before .enum-told .given .1) ∙ m .name .ensures)
+    c .refused2 .ensures ∙ no-name t (begins (m .before) .1) (begins (m .before) .0) (sym (c .before .enum-told .given .1) ∙ m .name .ensures)
 
 pub read-spec : {M : Type 1} → statement M
 read-spec =
@@ -48,7 +50,7 @@ read-spec =
     (λ c κs. search needs)
     (λ c κs. search needs)
     returns
-    (λ c κs. begun c .1)
+    (λ c κs. begins c .0)
     (λ c. search needs)
     inside
     (λ c. search needs)
