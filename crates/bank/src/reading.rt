@@ -3,6 +3,7 @@
 use super::bitreader::take;
 use super::control;
 use super::eights;
+use alphabet::MOST_CHARACTERS;
 use rules::Body;
 use rules::Last;
 use rules::Parts;
@@ -102,11 +103,11 @@ fn shape_in(body: Body, row: usize) -> Shape
 }
 
 // The k groups of seven bits from a code bit on, zeros behind them.
-fn groups(bank: &[u8], from: CodeBit, k: usize) -> [u8; 20]
+fn groups(bank: &[u8], from: CodeBit, k: usize) -> [u8; MOST_CHARACTERS]
     requires { ⌜ GroupsLie (from .0) k (length (now bank)) ⌝ }
     ensures { λ r. ⌜ r ≡ groupsAt (now (bank .entry)) (from .0) k ++ replicate (20 - k) 0 ⌝ }
 {
-    let mut groups = [0u8; 20];
+    let mut groups = [0u8; MOST_CHARACTERS];
     let mut at = from;
     let mut i = 0;
     while i < k {
@@ -136,7 +137,7 @@ fn general(bank: &[u8], at: CodeBit, s: Scheme, a: usize, b: usize, c: usize) ->
             digits: 0,
             reference: second.value,
             serial: third.value,
-            characters: [0; 20],
+            characters: [0; MOST_CHARACTERS],
             count: 0,
         },
     }

@@ -2,6 +2,7 @@
 // stream, adds its bits, and returns the stream behind them.
 use super::control::size;
 use super::eights;
+use alphabet::MOST_CHARACTERS;
 use bits::Stream;
 use rules::Body;
 use rules::Last;
@@ -62,7 +63,7 @@ fn put_integers(out: &mut [u8], s: Stream, tag: Record, a: usize, b: usize, c: u
 }
 
 // The first k characters, seven bits each. Where the string has fewer, the rest of them are zeros.
-fn put_string(out: &mut [u8], s: Stream, characters: [u8; 20], k: usize) -> Stream
+fn put_string(out: &mut [u8], s: Stream, characters: [u8; MOST_CHARACTERS], k: usize) -> Stream
     requires { ⌜ Room s 140 (length (now out)) × Digits 128 characters × (k ≤ 20) ⌝ }
     ensures { λ r. ⌜ Streamed (now (out .entry)) (s .at) (waiting s ++ spread 2 7 (take k characters)) (now (out .exit)) r ⌝ }
 {

@@ -1,4 +1,4 @@
--- What the schemes' code is measured by.
+-- The words in which the contracts of the schemes' code are written.
 pub mod Counts
 pub mod Outlines
 pub mod Records

@@ -1,4 +1,5 @@
 // The record of a tag: what its text and its bank both say, by value.
+use alphabet::MOST_CHARACTERS;
 use rules::Scheme;
 ghost use mathlib.Core.Path.{_≡_};
 ghost use Rattle.scheme.specs.Records.{refusal};
@@ -12,7 +13,7 @@ pub struct Record {
     pub digits: usize,
     pub reference: u64,
     pub serial: u64,
-    pub characters: [u8; 20],
+    pub characters: [u8; MOST_CHARACTERS],
     pub count: usize,
 }
 
@@ -35,7 +36,7 @@ pub fn refused(number: u8) -> Reading
             digits: 0,
             reference: 0,
             serial: 0,
-            characters: [0; 20],
+            characters: [0; MOST_CHARACTERS],
             count: 0,
         },
     }

@@ -1,5 +1,5 @@
 // A type for each scheme, with its header, its bit total and its word count as associated constants, and its constructor
-// (document 01, "The thirteen schemes"). The table, the encoder and the decoder cite these.
+// (document 01, "The thirteen schemes"). The code has these numbers from here.
 use rules::Scheme;
 ghost use mathlib.Core.Path.{_≡_};
 

@@ -1,4 +1,4 @@
--- What the reader and the writer of a text are measured by.
+-- The words in which the contracts of a text's reader and writer are written.
 pub mod Names
 pub mod Parts
 pub mod Reading

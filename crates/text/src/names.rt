@@ -1,4 +1,5 @@
-// The name of a scheme in a text: its first letter, the rest as one number, and the colon behind it (document 01, "The text of a tag").
+// The name of a scheme in a text, and the colon behind it (document 01, "The text of a tag"). The bytes between the name's first letter
+// and the colon are read as one number, the key, which is looked up in a table.
 use rules::Scheme;
 use scheme::types::Gdti96;
 use scheme::types::Gdti174;
@@ -26,14 +27,17 @@ pub enum Named {
     Unlisted,
 }
 
-// The bytes up to the next colon as one number, most significant first, if they are at most eight.
+// A number of 64 bits holds so many bytes.
+const MOST_BYTES: usize = 8;
+
+// The bytes up to the next colon as one number, most significant first, and how many they are. `right` is false, and the others 0, where
+// there is no colon or more bytes stand before it than the number holds.
 struct Tail {
     right: bool,
     value: u64,
     length: usize,
 }
 
-// Not so: there is no colon, or it stands further on.
 fn no_tail() -> Tail
     ensures { λ r. ⌜ r ≡ noTail ⌝ }
 {
@@ -59,7 +63,7 @@ fn tail_at(text: &[u8], at: usize) -> Tail
                 length: n,
             };
         }
-        if n == 8 {
+        if n == MOST_BYTES {
             return no_tail();
         }
         value = value * 256 + b as u64;
@@ -68,29 +72,30 @@ fn tail_at(text: &[u8], at: usize) -> Tail
     no_tail()
 }
 
-// What the rest of a name says of its scheme: the name's first letter, and how many bytes the rest has.
+// The scheme whose name ends in a key: the scheme, its name's first letter, and how many bytes the key has.
 enum Keyed {
     By(Scheme, u8, usize),
     Unkeyed,
 }
 
+// The keys are the names without their first letters, in ASCII: 67 74 69 6E 2D 39 36 is `gtin-96`.
 fn by_key(rest: u64) -> Keyed
     ensures { λ r. ⌜ r ≡ keyedBy rest ⌝ }
 {
     match rest {
-        0x6774696E2D3936 => Keyed::By(Sgtin96::new(), b's', 7),
-        0x6774696E2D313938 => Keyed::By(Sgtin198::new(), b's', 8),
-        0x7363632D3936 => Keyed::By(Sscc96::new(), b's', 6),
-        0x676C6E2D3936 => Keyed::By(Sgln96::new(), b's', 6),
-        0x676C6E2D313935 => Keyed::By(Sgln195::new(), b's', 7),
-        0x7261692D3936 => Keyed::By(Grai96::new(), b'g', 6),
-        0x7261692D313730 => Keyed::By(Grai170::new(), b'g', 7),
-        0x6961692D3936 => Keyed::By(Giai96::new(), b'g', 6),
-        0x73726E2D3936 => Keyed::By(Gsrn96::new(), b'g', 6),
-        0x73726E702D3936 => Keyed::By(Gsrnp96::new(), b'g', 7),
-        0x6474692D3936 => Keyed::By(Gdti96::new(), b'g', 6),
-        0x6474692D313734 => Keyed::By(Gdti174::new(), b'g', 7),
-        0x69642D3936 => Keyed::By(Gid96::new(), b'g', 5),
+        0x6774696E2D3936 => Keyed::By(Sgtin96::new(), b's', 7), // sgtin-96
+        0x6774696E2D313938 => Keyed::By(Sgtin198::new(), b's', 8), // sgtin-198
+        0x7363632D3936 => Keyed::By(Sscc96::new(), b's', 6), // sscc-96
+        0x676C6E2D3936 => Keyed::By(Sgln96::new(), b's', 6), // sgln-96
+        0x676C6E2D313935 => Keyed::By(Sgln195::new(), b's', 7), // sgln-195
+        0x7261692D3936 => Keyed::By(Grai96::new(), b'g', 6), // grai-96
+        0x7261692D313730 => Keyed::By(Grai170::new(), b'g', 7), // grai-170
+        0x6961692D3936 => Keyed::By(Giai96::new(), b'g', 6), // giai-96
+        0x73726E2D3936 => Keyed::By(Gsrn96::new(), b'g', 6), // gsrn-96
+        0x73726E702D3936 => Keyed::By(Gsrnp96::new(), b'g', 7), // gsrnp-96
+        0x6474692D3936 => Keyed::By(Gdti96::new(), b'g', 6), // gdti-96
+        0x6474692D313734 => Keyed::By(Gdti174::new(), b'g', 7), // gdti-174
+        0x69642D3936 => Keyed::By(Gid96::new(), b'g', 5), // gid-96
         _ => Keyed::Unkeyed,
     }
 }

@@ -7,6 +7,7 @@ use super::parts::Part;
 use super::parts::digits_to_end;
 use super::parts::integer_to_end;
 use super::parts::part_at;
+use alphabet::MOST_CHARACTERS;
 use rules::Body;
 use rules::Last;
 use rules::Parts;
@@ -48,7 +49,13 @@ struct Head {
     digits: usize,
 }
 
-fn tagged(head: Head, reference: u64, serial: u64, characters: [u8; 20], count: usize) -> Reading
+fn tagged(
+    head: Head,
+    reference: u64,
+    serial: u64,
+    characters: [u8; MOST_CHARACTERS],
+    count: usize,
+) -> Reading
     ensures { λ r. ⌜ r ≡ taggedWith head reference serial characters count ⌝ }
 {
     let scheme = head.scheme;
@@ -76,7 +83,7 @@ fn with_integer(text: &[u8], at: usize, head: Head, reference: Form, bits: usize
         return refused(refusal::REFERENCE);
     };
     match integer_to_end(text, next, bits) {
-        End::Is(serial) => tagged(head, value, serial, [0; 20], 0),
+        End::Is(serial) => tagged(head, value, serial, [0; MOST_CHARACTERS], 0),
         End::Refused(n) => refused(n),
     }
 }
@@ -106,7 +113,7 @@ fn reference_alone(text: &[u8], at: usize, head: Head, reference: usize) -> Read
     ensures { λ r. ⌜ r ≡ referenceAlone head (partsIn (end referenceRole (digits 0 reference)) (drop at (now (text .entry)))) ⌝ }
 {
     match digits_to_end(text, at, reference) {
-        End::Is(value) => tagged(head, value, 0, [0; 20], 0),
+        End::Is(value) => tagged(head, value, 0, [0; MOST_CHARACTERS], 0),
         End::Refused(n) => refused(n),
     }
 }
@@ -117,7 +124,7 @@ fn asset_alone(text: &[u8], at: usize, head: Head, bits: usize) -> Reading
     ensures { λ r. ⌜ r ≡ assetAlone head (partsIn (end last (integer bits)) (drop at (now (text .entry)))) ⌝ }
 {
     match integer_to_end(text, at, bits) {
-        End::Is(serial) => tagged(head, 0, serial, [0; 20], 0),
+        End::Is(serial) => tagged(head, 0, serial, [0; MOST_CHARACTERS], 0),
         End::Refused(n) => refused(n),
     }
 }
