@@ -34,7 +34,7 @@ int main(int argc, char **argv) {
 
     tagcodec_reply shown = tagcodec_bank_to_text(bank, (size_t)size, tag, sizeof tag);
     tagcodec_reply line = tagcodec_raw_line(bank, (size_t)size, raw, sizeof raw);
-    tagcodec_line screen = tagcodec_screen(tag, shown.length, raw, line.length, shown.number);
+    tagcodec_shown screen = tagcodec_screen(tag, shown.length, raw, line.length, shown.number);
 
     printf("%u", (unsigned)shown.number);
     if (screen.length > 0) {

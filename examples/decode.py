@@ -14,7 +14,7 @@ class Reply(ctypes.Structure):
     _fields_ = [("number", ctypes.c_uint32), ("length", ctypes.c_size_t)]
 
 
-class Line(ctypes.Structure):
+class Shown(ctypes.Structure):
     _fields_ = [("text", ctypes.c_uint32), ("length", ctypes.c_size_t)]
 
 
@@ -25,7 +25,7 @@ def load(path):
         call = getattr(library, "tagcodec_" + name)
         call.argtypes, call.restype = lent + lent, Reply
     library.tagcodec_screen.argtypes = lent + lent + [ctypes.c_uint32]
-    library.tagcodec_screen.restype = Line
+    library.tagcodec_screen.restype = Shown
     return library
 
 

@@ -8,7 +8,7 @@ struct Reply {
 }
 
 #[repr(C)]
-struct Line {
+struct Shown {
     text: u32,
     length: usize,
 }
@@ -17,7 +17,7 @@ extern "C" {
     fn tagcodec_text_to_bank(text: *const u8, text_length: usize, out: *mut u8, out_length: usize) -> Reply;
     fn tagcodec_bank_to_text(bank: *const u8, bank_length: usize, out: *mut u8, out_length: usize) -> Reply;
     fn tagcodec_raw_line(bank: *const u8, bank_length: usize, out: *mut u8, out_length: usize) -> Reply;
-    fn tagcodec_screen(tag: *const u8, tag_length: usize, raw: *const u8, raw_length: usize, number: u32) -> Line;
+    fn tagcodec_screen(tag: *const u8, tag_length: usize, raw: *const u8, raw_length: usize, number: u32) -> Shown;
 }
 
 /// The bytes that an output must have.

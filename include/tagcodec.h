@@ -78,14 +78,14 @@ enum tagcodec_text {
 };
 
 /* The first `length` bytes of the text that `text` names. */
-typedef struct tagcodec_line {
+typedef struct tagcodec_shown {
     uint32_t text;
     size_t length;
-} tagcodec_line;
+} tagcodec_shown;
 
 /* The line on the screen, from the tag text, the raw text and the number that tagcodec_bank_to_text gave: all of the tag text for 0, all
  * of the raw text for 11 to 19, the empty start of the raw text for every other number, 20 and above included. */
-tagcodec_line tagcodec_screen(const uint8_t *tag, size_t tag_length, const uint8_t *raw, size_t raw_length, uint32_t number);
+tagcodec_shown tagcodec_screen(const uint8_t *tag, size_t tag_length, const uint8_t *raw, size_t raw_length, uint32_t number);
 
 #ifdef __cplusplus
 }

@@ -13,7 +13,7 @@ use Rattle.rules.specs.Screen.{screen}
 use Rattle.codec.specs.Answers.{answered, numberOf, lengthOf}
 use Rattle.codec.specs.declared.Answer.{Answer}
 use Rattle.capi.specs.declared.Reply.{Reply}
-use Rattle.capi.specs.declared.Line.{Line}
+use Rattle.capi.specs.declared.Shown.{Shown}
 use Rattle.capi.specs.Replies.{replied, Shows}
 
 pub same : (a : Answer) (out : List ℕ) (c : Call) → answered a out ≡ c → (r : Reply) → r .number ≡ numberOf a → r .length ≡ lengthOf a → replied r out ≡ c
@@ -56,5 +56,5 @@ one-reply r s o p c e f =
     let g = e ∙ sym f in
     (ap (λ x. record { number = x .number; length = x .written }) g, ap (λ x. x .output) g)
 
-pub one-line : (tag raw : List ℕ) (n : ℕ) (r s : Line) → Shows tag raw n r → Shows tag raw n s → r ≡ s
-one-line tag raw n r s x y = let t = x .text ∙ sym (y .text) in let l = x .whole ∙ sym (y .whole) in rw (t, l)
+pub one-screen : (tag raw : List ℕ) (n : ℕ) (r s : Shown) → Shows tag raw n r → Shows tag raw n s → r ≡ s
+one-screen tag raw n r s x y = let t = x .text ∙ sym (y .text) in let l = x .whole ∙ sym (y .whole) in rw (t, l)

@@ -7,13 +7,13 @@ use Rattle.rules.specs.Calls.{Call}
 use Rattle.rules.specs.Screen.{screen}
 use Rattle.codec.specs.Answers.{chosen}
 use Rattle.capi.specs.declared.Reply.{Reply}
-use Rattle.capi.specs.declared.Line.{Line}
+use Rattle.capi.specs.declared.Shown.{Shown}
 
 abbrev pub replied : Reply → List ℕ → Call
 replied r out = record { number = r .number; written = r .length; output = out }
 
 -- The line is the first bytes of the text that it names: those and no fewer of the right text (document 01, "Screen").
-pub record Shows (tag raw : List ℕ) (number : ℕ) (r : Line) : Type 0 where
+pub record Shows (tag raw : List ℕ) (number : ℕ) (r : Shown) : Type 0 where
   pub text : r .text ≡ chosen number 0 1
   pub whole : r .length ≡ length (screen tag raw number)
   pub shown : take (r .length) (chosen (r .text) tag raw) ≡ screen tag raw number

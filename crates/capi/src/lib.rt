@@ -13,9 +13,14 @@ pub struct Reply {
     pub length: usize,
 }
 
-// The line on the screen: the first `length` bytes of the tag text (`text` is 0) or of the raw text (1).
+// The two texts that a line on the screen can be a part of.
+const TAG_TEXT: u32 = 0;
+
+const RAW_TEXT: u32 = 1;
+
+// The line on the screen: the first `length` bytes of the text that `text` names.
 #[repr(C)]
-pub struct Line {
+pub struct Shown {
     pub text: u32,
     pub length: usize,
 }
@@ -63,21 +68,24 @@ pub extern "C" fn tagcodec_raw_line(bank: &[u8], out: &mut [u8]) -> Reply
 // The line on the screen. An exported function returns no pointer, so the answer names the text. Any number may come in: above 255 it
 // shows nothing, as every number above 19 does.
 #[no_mangle]
-pub extern "C" fn tagcodec_screen<'a>(tag: &'a [u8], raw: &'a [u8], number: u32) -> Line
+pub extern "C" fn tagcodec_screen<'a>(tag: &'a [u8], raw: &'a [u8], number: u32) -> Shown
     ensures { λ r. ⌜ Shows (now (tag .entry)) (now (raw .entry)) number r ⌝ }
 {
     if 255 < number {
-        return Line { text: 1, length: 0 };
+        return Shown {
+            text: RAW_TEXT,
+            length: 0,
+        };
     }
     let line = codec::screen(tag, raw, number as u8);
     if number == 0 {
-        return Line {
-            text: 0,
+        return Shown {
+            text: TAG_TEXT,
             length: line.len(),
         };
     }
-    Line {
-        text: 1,
+    Shown {
+        text: RAW_TEXT,
         length: line.len(),
     }
 }

@@ -6,6 +6,8 @@ use super::letters::put_bank;
 use super::letters::put_neither;
 use super::letters::put_number;
 use codec::Answer;
+use codec::BANK_ROOM;
+use codec::TEXT_ROOM;
 ghost use mathlib.Core.Path.{_≡_};
 ghost use Prim.Native.Nat.{_≤_};
 ghost use lib.ListN.{length};
@@ -17,12 +19,6 @@ ghost use Rattle.lines.specs.Lines.{Wrote, replyRoom};
 
 // A line that begins `urn:` has at most so many characters.
 pub const MOST_CHARACTERS: usize = 200;
-
-// The codec asks for so many bytes of room for a bank.
-const BANK_ROOM: usize = 64;
-
-// And for so many for a text or a raw line.
-const TEXT_ROOM: usize = 160;
 
 // So many bytes stand before a raw line: a letter, a number of two digits, and a space behind each.
 const AFTER_NUMBER: usize = 5;
