@@ -41,8 +41,8 @@ shown-full b out d e =
     let (w, r, n, _) = rules.one-answer-of-bank-to-text b out d (bankToText b out) .1 refl .accepted e in
     rw (n, r .2) (text-full (r .0))
 
-pub line-full : (b out : List ℕ) → Full (rawLine b out)
-line-full b out e =
+pub raw-line-full : (b out : List ℕ) → Full (rawLine b out)
+raw-line-full b out e =
     let (w, r, n, _) = rules.one-answer-of-raw-line b out (rawLine b out) .1 refl .accepted e in
     rw (n, r) (raw-full b)
 
@@ -64,4 +64,4 @@ module _ (r s : Answer) (o p : List ℕ) where
   one-answer-of-bank-to-text b out d = one-answer (bankToText b out) (shown-full b out d) r s o p
 
   pub one-answer-of-raw-line : (b out : List ℕ) → answered r o ≡ rawLine b out → answered s p ≡ rawLine b out → (r ≡ s) × (o ≡ p)
-  one-answer-of-raw-line b out = one-answer (rawLine b out) (line-full b out) r s o p
+  one-answer-of-raw-line b out = one-answer (rawLine b out) (raw-line-full b out) r s o p
