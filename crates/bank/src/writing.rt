@@ -22,7 +22,7 @@ ghost use Rattle.rules.specs.Coding.{bankOf};
 ghost use Rattle.scheme.specs.Records.{HasTag, Writes};
 ghost use Rattle.bank.specs.Writing.{Room, startBits, Company, companyBits, Reference, referenceBits, Asset, assetNumber, KeepsLast, lastBits, Keeps, packed};
 
-// The filter, the partition value and the company prefix.
+// The filter, the partition value and the company prefix: 3 bits, 3, and 40 at most.
 fn put_company(out: &mut [u8], s: Stream, tag: Record) -> Stream
     requires { ⌜ Room s 46 (length (now out)) × Company tag ⌝ }
     ensures { λ r. ⌜ Streamed (now (out .entry)) (s .at) (waiting s ++ companyBits tag) (now (out .exit)) r ⌝ }
@@ -33,7 +33,7 @@ fn put_company(out: &mut [u8], s: Stream, tag: Record) -> Stream
     bits::push(out, six, cell.bits, tag.prefix)
 }
 
-// The reference of one of the tables A to D.
+// The reference of one of the tables A to D: 38 bits at most.
 fn put_reference(out: &mut [u8], s: Stream, t: Table, tag: Record) -> Stream
     requires { ⌜ Room s 38 (length (now out)) × Reference t tag ⌝ }
     ensures { λ r. ⌜ Streamed (now (out .entry)) (s .at) (waiting s ++ referenceBits t tag) (now (out .exit)) r ⌝ }
@@ -52,7 +52,7 @@ fn put_asset(out: &mut [u8], s: Stream, tag: Record) -> Stream
     bits::push(out, high, 32, tag.serial % 0x100000000)
 }
 
-// Three integers of a, b and c bits.
+// Three integers of a, b and c bits, each 57 at most: as many as a stream takes at once.
 fn put_integers(out: &mut [u8], s: Stream, tag: Record, a: usize, b: usize, c: usize) -> Stream
     requires { ⌜ Room s 171 (length (now out)) × Keeps (Parts.Integers a b c) tag ⌝ }
     ensures { λ r. ⌜ Streamed (now (out .entry)) (s .at) (waiting s ++ packed (Parts.Integers a b c) tag) (now (out .exit)) r ⌝ }
@@ -62,7 +62,7 @@ fn put_integers(out: &mut [u8], s: Stream, tag: Record, a: usize, b: usize, c: u
     bits::push(out, second, c, tag.serial)
 }
 
-// The first k characters, seven bits each. Where the string has fewer, the rest of them are zeros.
+// The first k characters, at most 20 of seven bits each. Where the string has fewer, the rest of them are zeros.
 fn put_string(out: &mut [u8], s: Stream, characters: [u8; MOST_CHARACTERS], k: usize) -> Stream
     requires { ⌜ Room s 140 (length (now out)) × Digits 128 characters × (k ≤ 20) ⌝ }
     ensures { λ r. ⌜ Streamed (now (out .entry)) (s .at) (waiting s ++ spread 2 7 (take k characters)) (now (out .exit)) r ⌝ }
@@ -91,7 +91,7 @@ fn put_last(out: &mut [u8], s: Stream, last: Last, tag: Record) -> Stream
     }
 }
 
-// A partition table, and what follows its reference.
+// A partition table, and what follows its reference: 46 bits, 38, and the 140 of a string at most.
 fn put_body(out: &mut [u8], s: Stream, body: Body, tag: Record) -> Stream
     requires { ⌜ Room s 224 (length (now out)) × Keeps (Parts.F body) tag ⌝ }
     ensures { λ r. ⌜ Streamed (now (out .entry)) (s .at) (waiting s ++ packed (Parts.F body) tag) (now (out .exit)) r ⌝ }

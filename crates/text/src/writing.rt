@@ -26,7 +26,7 @@ fn put_byte(out: &mut [u8], at: usize, b: u8) -> usize
     at + 1
 }
 
-// A scheme's name and the colon.
+// A scheme's name and the colon: 10 bytes at most.
 fn put_label(out: &mut [u8], at: usize, s: Scheme) -> usize
     requires { ⌜ at + 10 ≤ length (now out) ⌝ }
     ensures { λ r. ⌜ Puts (label s) at (now (out .entry)) r (now (out .exit)) ⌝ }
@@ -48,7 +48,7 @@ fn put_label(out: &mut [u8], at: usize, s: Scheme) -> usize
     }
 }
 
-// What stands before the parts, from index 0 on.
+// What stands before the parts, from index 0 on: `urn:epc:tag:` and the 10 bytes of the longest name.
 fn put_start(out: &mut [u8], s: Scheme) -> usize
     requires { ⌜ 22 ≤ length (now out) ⌝ }
     ensures { λ r. ⌜ Puts (start ++ label s) 0 (now (out .entry)) r (now (out .exit)) ⌝ }
@@ -58,7 +58,7 @@ fn put_start(out: &mut [u8], s: Scheme) -> usize
     put_label(out, at, s)
 }
 
-// The filter and the company prefix, each with its dot.
+// The filter and the company prefix, each with its dot: one digit, 12 at most, and two dots.
 fn put_company(out: &mut [u8], at: usize, tag: Record) -> usize
     requires { ⌜ Company tag × (at + 15 ≤ length (now out)) ⌝ }
     ensures { λ r. ⌜ Puts (companyText tag) at (now (out .entry)) r (now (out .exit)) ⌝ }
@@ -70,7 +70,7 @@ fn put_company(out: &mut [u8], at: usize, tag: Record) -> usize
     put_byte(out, q + tag.digits, b'.')
 }
 
-// The reference of one of the tables A to D, with the digits of the row that the company prefix picks.
+// The reference of one of the tables A to D, with the digits of the row that the company prefix picks: 11 at most.
 fn put_reference(out: &mut [u8], at: usize, table: Table, tag: Record) -> usize
     requires { ⌜ Company tag × (at + 11 ≤ length (now out)) ⌝ }
     ensures { λ r. ⌜ Puts (referenceText table tag) at (now (out .entry)) r (now (out .exit)) ⌝ }
@@ -91,7 +91,7 @@ fn put_integer(out: &mut [u8], at: usize, v: u64) -> usize
     digits::put_decimal(out, at, v)
 }
 
-// gid-96's three integers.
+// gid-96's three integers and the two dots between them.
 fn put_integers(out: &mut [u8], at: usize, tag: Record) -> usize
     requires { ⌜ at + 62 ≤ length (now out) ⌝ }
     ensures { λ r. ⌜ Puts (integersText tag) at (now (out .entry)) r (now (out .exit)) ⌝ }
@@ -103,7 +103,7 @@ fn put_integers(out: &mut [u8], at: usize, tag: Record) -> usize
     put_integer(out, s, tag.serial)
 }
 
-// The last part behind a reference: an integer, or the characters of a string.
+// The last part behind a reference: an integer, or the characters of a string, of which 20 escapes are the longest, 60 bytes.
 fn put_last(out: &mut [u8], at: usize, last: Last, tag: Record) -> usize
     requires { ⌜ Held last tag × (at + 60 ≤ length (now out)) ⌝ }
     ensures { λ r. ⌜ Puts (lastText last tag) at (now (out .entry)) r (now (out .exit)) ⌝ }
@@ -114,7 +114,7 @@ fn put_last(out: &mut [u8], at: usize, last: Last, tag: Record) -> usize
     }
 }
 
-// The filter, the company prefix, and what follows it.
+// The filter, the company prefix, and what follows it: 15 bytes, 11, a dot and 60 at most.
 fn put_body(out: &mut [u8], at: usize, body: Body, tag: Record) -> usize
     requires { ⌜ Company tag × HeldBehind body tag × (at + 87 ≤ length (now out)) ⌝ }
     ensures { λ r. ⌜ Puts (bodyText body tag) at (now (out .entry)) r (now (out .exit)) ⌝ }
