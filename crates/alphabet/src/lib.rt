@@ -2,6 +2,7 @@
 // of seven bits that a bank holds.
 mod table;
 
+use rules::MOST_CHARACTERS;
 use table::Classes;
 ghost use mathlib.Core.Path.{_≡_};
 ghost use mathlib.Core.List.{[], _∷_};
@@ -29,9 +30,6 @@ fn class(c: u8, classes: &Classes) -> u8
 {
     classes[c as usize]
 }
-
-// The most characters that a scheme holds.
-pub const MOST_CHARACTERS: usize = 20;
 
 // What a text spells: the number of its characters, and the first twenty of them, with zeros behind. The number is 0 where the text is
 // empty or its form is wrong. Characters past the twentieth are counted too: a wrong form (number 7) comes before too many

@@ -3,9 +3,9 @@
 use super::bitreader::take;
 use super::control;
 use super::eights;
-use alphabet::MOST_CHARACTERS;
 use rules::Body;
 use rules::Last;
+use rules::MOST_CHARACTERS;
 use rules::Parts;
 use rules::Scheme;
 use scheme::counts::CodeBit;

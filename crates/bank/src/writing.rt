@@ -2,10 +2,10 @@
 // stream, adds its bits, and returns the stream behind them.
 use super::control::size;
 use super::eights;
-use alphabet::MOST_CHARACTERS;
 use bits::Stream;
 use rules::Body;
 use rules::Last;
+use rules::MOST_CHARACTERS;
 use rules::Parts;
 use rules::Table;
 use scheme::outlines::Outline;

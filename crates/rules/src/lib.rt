@@ -18,6 +18,9 @@ pub enum Scheme {
     Gid96,
 }
 
+// The most characters that a string has: 140 bits, seven each.
+pub const MOST_CHARACTERS: usize = 20;
+
 // The partition tables whose references have digits.
 pub enum Table {
     A,

@@ -1,5 +1,5 @@
 // The record of a tag: what its text and its bank both say, by value.
-use alphabet::MOST_CHARACTERS;
+use rules::MOST_CHARACTERS;
 use rules::Scheme;
 ghost use mathlib.Core.Path.{_≡_};
 ghost use Rattle.scheme.specs.Records.{refusal};
