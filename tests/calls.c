@@ -97,7 +97,7 @@ static void edges(void) {
 }
 
 static void screen(void) {
-    const uint8_t tag[3] = "tag", line[4] = "line";
+    const uint8_t tag[] = {'t', 'a', 'g'}, line[] = {'l', 'i', 'n', 'e'};
     for (uint32_t number = 0; number < 1000; number++) {
         tagcodec_shown r = tagcodec_screen(tag, 3, line, 4, number);
         size_t length = number == 0 ? 3 : 11 <= number && number <= 19 ? 4 : 0;

@@ -19,7 +19,10 @@ use Rattle.lines.proofs.Turns.{on-buffer, few-kept}
 use Rattle.lines.proofs.Sessions.{in-pieces, one-more}
 use Rattle.tagline.specs.declared.After.{After}
 use Rattle.tagline.specs.declared.Stopped.{Stopped}
-use Rattle.tagline.specs.Runs.{given, OneTurn, mostReads, Ran}
+use Rattle.tagline.specs.Runs.{given, Taken, OneTurn, mostReads, Ran}
+
+true-is-not-false : true ≡ false → ⊥
+true-is-not-false h = let z : _≡_ {A = ℕ} 0 1 = cc in absurd (omega arith)
 
 -- a turn on the bytes that were kept and read is one on the buffer
 module _ (got : ℤ) (n k : ℕ) (buffer out : List ℕ) (count : k ≡ clamped got (length (take (length buffer - n) (drop n buffer)))) where
@@ -37,19 +40,23 @@ module _ (got : ℤ) (n k : ℕ) (buffer out : List ℕ) (count : k ≡ clamped 
 -- whatever e the read put behind the first n bytes of l, they stay, and the turn is one for some bytes
 pub for-some : (got : ℤ) (n : ℕ) (l e out : List ℕ) (r : Turned) (sent : Bool) (input′ out′ : List ℕ) → n ≤ length l
     → let buffer = back l n e in
-    Took (turnOf (take n buffer) (given got n buffer)) buffer out r input′ out′ → OneTurn (take n l) (record { kept = r .kept; ended = r .ended; sent = sent }) input′ out′
+    Took (turnOf (take n buffer) (given got n buffer)) buffer out r input′ out′ → OneTurn (take n l) (record { kept = r .kept; ended = r .ended; heard = true; sent = sent }) input′ out′
 for-some got n l e out r sent input′ out′ h t =
     let buffer : List ℕ = back l n e in
     let read : List ℕ = given got n buffer in
     let rest : List ℕ = take n l in
     let u = rw (take-put n (length l - n) l e h) at t in
-    record {
-      read = read;
+    let taken : Taken (turnOf rest read) (record { kept = r .kept; ended = r .ended; heard = true; sent = sent }) input′ out′ = record {
       printed = wrote-begins (turnOf rest read .prints) out out′ (r .written) (u .printed);
       kept = wrote-begins (turnOf rest read .keeps) buffer input′ (r .kept) (u .kept);
       count = omega (arith, u .kept .end);
       ended = u .ended;
-    }
+    } in
+    record { read = read; taken = λ h. taken; unheard = λ h. absurd (true-is-not-false h) }
+
+-- a read that failed
+pub for-none : (rest input out : List ℕ) (kept : ℕ) → OneTurn rest (record { kept = kept; ended = false; heard = false; sent = true }) input out
+for-none rest input out kept = record { read = []; taken = λ h. absurd (true-is-not-false (sym h)); unheard = λ h. refl }
 
 -- THE LOOP
 
@@ -69,35 +76,43 @@ module _ (input input′ out : List ℕ) (kept reads : ℕ) (g : Going input kep
   rest-is : turnOf (take kept input) (t .read) ≡ turnOf (session [] (g .gave) .keeps) (t .read)
   rest-is = ap (λ r. turnOf r (t .read)) (sym (g .rest))
 
-  pub reads-on : d .ended ≡ false → reads + 1 < mostReads → Going input′ (d .kept) (reads + 1)
-  reads-on e l =
+  pub reads-on : d .heard ≡ true → d .ended ≡ false → reads + 1 < mostReads → Going input′ (d .kept) (reads + 1)
+  reads-on h e l =
       let (k, f) = one-more (g .gave) [] (t .read) (g .going) in
+      let u = t .taken h in
       record {
         gave = g .gave ++ (t .read ∷ []);
         count = simp length-append (omega (arith, g .count));
-        going = f ∙ sym (ap (λ x. x .ends) rest-is) ∙ sym (t .ended) ∙ e;
-        rest = k ∙ sym (ap (λ x. x .keeps) rest-is) ∙ sym (t .kept) ∙ ap (λ n. take n input′) (sym (t .count));
-        few = omega (arith, t .count, few-kept (take kept input) (t .read));
+        going = f ∙ sym (ap (λ x. x .ends) rest-is) ∙ sym (u .ended) ∙ e;
+        rest = k ∙ sym (ap (λ x. x .keeps) rest-is) ∙ sym (u .kept) ∙ ap (λ n. take n input′) (sym (u .count));
+        few = omega (arith, u .count, few-kept (take kept input) (t .read));
         left = l;
       }
 
-  pub stops : (d .ended ≡ true) ⊎ (d .sent ≡ false) ⊎ (reads + 1 ≡ mostReads) → Ran (record { reads = reads + 1; ended = d .ended; sent = d .sent }) out
+  pub stops : (d .ended ≡ true) ⊎ (d .heard ≡ false) ⊎ (d .sent ≡ false) ⊎ (reads + 1 ≡ mostReads)
+      → Ran (record { reads = reads + 1; ended = d .ended; heard = d .heard; sent = d .sent }) out
   stops why = record {
     before = g .gave;
     last = t .read;
     count = omega (arith, g .count);
     going = g .going;
-    printed = rw (ap (λ x. x .prints) rest-is) at (t .printed);
-    ended = t .ended ∙ ap (λ x. x .ends) rest-is ∙ sym (one-more (g .gave) [] (t .read) (g .going) .1);
+    printed = λ h. rw (ap (λ x. x .prints) rest-is) at (t .taken h .printed);
+    ended = λ h. t .taken h .ended ∙ ap (λ x. x .ends) rest-is ∙ sym (one-more (g .gave) [] (t .read) (g .going) .1);
+    unheard = t .unheard;
     why = why;
   }
 
 -- where the input has ended, the turns have printed the replies to all of it
 pub all-answered : (r : Stopped) (out : List ℕ) (x : Ran r out) → r .ended ≡ true → session [] (x .before ++ (x .last ∷ [])) .prints ≡ outputOf (inputOf (x .before))
 all-answered r out x e =
-    let end = nothing (session [] (x .before) .keeps) (x .last) (sym (one-more (x .before) [] (x .last) (x .going) .1) ∙ sym (x .ended) ∙ e) in
+    let h = at-end (r .heard) (r .ended) (x .unheard) e in
+    let end = nothing (session [] (x .before) .keeps) (x .last) (sym (one-more (x .before) [] (x .last) (x .going) .1) ∙ sym (x .ended h) ∙ e) in
     rw (end, in-pieces (x .before))
   where
+    at-end : (h e : Bool) → (h ≡ false → e ≡ false) → e ≡ true → h ≡ true
+    at-end true e f p = refl
+    at-end false e f p = absurd (true-is-not-false (sym p ∙ f refl))
+
     nothing : (rest read : List ℕ) → turnOf rest read .ends ≡ true → read ≡ []
     nothing rest [] h = refl
     nothing rest (x ∷ read) h = let z : _≡_ {A = ℕ} 0 1 = cc in absurd (omega arith)

@@ -8,11 +8,11 @@ use mathlib.Core.Bool.{true, false}
 use lib.IntN.{ℤ}
 use lib.ListN.{length, take, drop}
 use Rattle.io.specs.Counts.{clamped}
-use Rattle.lines.specs.Turns.{turnOf, session}
+use Rattle.lines.specs.Turns.{Turn, turnOf, session}
 use Rattle.tagline.specs.declared.After.{After}
 use Rattle.tagline.specs.declared.Stopped.{Stopped}
 
--- what a read gave that answered `got`, and put its bytes behind the first n of the buffer; a read that failed gave nothing
+-- what a read gave that answered `got`, and put its bytes behind the first n of the buffer
 abbrev pub given : ℤ → ℕ → List ℕ → List ℕ
 given got n buffer = let behind = drop n buffer in take (clamped got (length behind)) behind
 
@@ -20,27 +20,32 @@ given got n buffer = let behind = drop n buffer in take (clamped got (length beh
 abbrev pub Begins : List ℕ → List ℕ → Type 0
 Begins l w = take (length w) l ≡ w
 
--- One turn of the program is the session's turn for some bytes that were read: the output then begins with what it prints, the input with
--- what it keeps.
+-- The program has taken the session's turn t: the output begins with what it prints, the input with what it keeps.
+pub record Taken (t : Turn) (r : After) (input out : List ℕ) : Type 0 where
+  pub printed : Begins out (t .prints)
+  pub kept : Begins input (t .keeps)
+  pub count : r .kept ≡ length (t .keeps)
+  pub ended : r .ended ≡ t .ends
+
+-- One turn of the program is the session's turn for some bytes that were read. A read that failed is not the end of the input.
 pub record OneTurn (rest : List ℕ) (r : After) (input out : List ℕ) : Type 0 where
   pub read : List ℕ
-  pub printed : Begins out (turnOf rest read .prints)
-  pub kept : Begins input (turnOf rest read .keeps)
-  pub count : r .kept ≡ length (turnOf rest read .keeps)
-  pub ended : r .ended ≡ turnOf rest read .ends
+  pub taken : r .heard ≡ true → Taken (turnOf rest read) r input out
+  pub unheard : r .heard ≡ false → r .ended ≡ false
 
 -- the most reads that are made
 abbrev pub mostReads : ℕ
 mostReads = 2 ^ 64 - 1
 
--- The program has made a session's turns, and has stopped: `before` is what its reads gave, and `last` what the last one gave. The session had
--- not ended before the last read, and the output begins with what the last turn prints. The program stops only where the session has ended,
--- where a write failed, or after the most reads.
+-- The program has made a session's turns, and has stopped: `before` is what its reads gave, and `last` what the last one gave, unless it
+-- failed. The session had not ended before the last read. If that was good, the output begins with what the last turn prints; if it failed,
+-- the input has not ended. The program stops only where the session has ended, where a read or a write failed, or after the most reads.
 pub record Ran (r : Stopped) (out : List ℕ) : Type 0 where
   pub before : List (List ℕ)
   pub last : List ℕ
   pub count : r .reads ≡ suc (length before)
   pub going : session [] before .ends ≡ false
-  pub printed : Begins out (turnOf (session [] before .keeps) last .prints)
-  pub ended : r .ended ≡ session [] (before ++ (last ∷ [])) .ends
-  pub why : (r .ended ≡ true) ⊎ (r .sent ≡ false) ⊎ (r .reads ≡ mostReads)
+  pub printed : r .heard ≡ true → Begins out (turnOf (session [] before .keeps) last .prints)
+  pub ended : r .heard ≡ true → r .ended ≡ session [] (before ++ (last ∷ [])) .ends
+  pub unheard : r .heard ≡ false → r .ended ≡ false
+  pub why : (r .ended ≡ true) ⊎ (r .heard ≡ false) ⊎ (r .sent ≡ false) ⊎ (r .reads ≡ mostReads)

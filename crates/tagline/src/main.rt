@@ -1,4 +1,5 @@
 // tagline (document 01): lines in, a reply to each out. Only the reading and the writing are here; `lines` has the rest.
+use libc::STDERR_FILENO;
 use libc::STDIN_FILENO;
 use libc::STDOUT_FILENO;
 use lines::Turned;
@@ -18,8 +19,7 @@ const ROOM: usize = lines::GROWTH * INPUT + lines::REPLY_ROOM;
 // The most reads that are made. Nobody meets this limit: at a read a nanosecond it takes 584 years.
 const MOST_READS: u64 = u64::MAX;
 
-// The turn for what a read has put behind the first `kept` bytes of the input. `got` is the read's answer: how many bytes these are, or -1 where
-// it failed. A read that failed counts as the end of the input.
+// The turn for what a read has put behind the first `kept` bytes of the input. `got` is the read's answer: how many bytes these are.
 fn turn_for(got: isize, input: &mut [u8], kept: usize, out: &mut [u8]) -> Turned
     requires { ⌜ (kept ≤ mostKept) × (mostKept < length (now input)) × (inputRoom (now input) ≤ length (now out)) ⌝ }
     ensures { λ r. ⌜ Took (turnOf (take kept (now (input .entry))) (given got kept (now (input .entry)))) (now (input .entry)) (now (out .entry)) r (now (input .exit)) (now (out .exit)) ⌝ }
@@ -29,37 +29,50 @@ fn turn_for(got: isize, input: &mut [u8], kept: usize, out: &mut [u8]) -> Turned
     lines::turn(&mut input[..end], kept, out)
 }
 
-// After a turn: how many bytes are kept, whether the input has ended, and whether all replies were written.
+// After a turn: how many bytes are kept, whether the input has ended, whether the read was good, and whether all replies were written.
 struct After {
     kept: usize,
     ended: bool,
+    heard: bool,
     sent: bool,
 }
 
-// One turn: a read behind the kept bytes, and a write of the replies.
+// One turn: a read behind the kept bytes, and a write of the replies. A read that fails is not the end of the input: a line of which only the
+// start was read gets no reply.
 fn one_turn(input: &mut [u8], kept: usize, out: &mut [u8]) -> After
     requires { ⌜ (kept ≤ mostKept) × (mostKept < length (now input)) × (inputRoom (now input) ≤ length (now out)) ⌝ }
     ensures { λ r. ⌜ OneTurn (take kept (now (input .entry))) r (now (input .exit)) (now (out .exit)) ⌝ }
 {
     let got = libc::read(STDIN_FILENO, &mut input[kept..]);
+    if got < 0 {
+        return After {
+            kept,
+            ended: false,
+            heard: false,
+            sent: true,
+        };
+    }
     let turned = turn_for(got, input, kept, out);
     let written = turned.written;
     let sent = io::write_all(STDOUT_FILENO, &out[..written]);
     After {
         kept: turned.kept,
         ended: turned.ended,
+        heard: true,
         sent,
     }
 }
 
-// When the program stops: how many reads it has made, whether the input has ended, and whether all replies were written.
+// When the program stops: how many reads it has made, whether the input has ended, whether the last read was good, and whether all replies
+// were written.
 struct Stopped {
     reads: u64,
     ended: bool,
+    heard: bool,
     sent: bool,
 }
 
-// Turn after turn, to the end of the input. It stops before that only where a write fails, or after `MOST_READS` reads.
+// Turn after turn, to the end of the input. It stops before that only where a read or a write fails, or after `MOST_READS` reads.
 fn all_turns(input: &mut [u8], out: &mut [u8]) -> Stopped
     requires { ⌜ (mostKept < length (now input)) × (inputRoom (now input) ≤ length (now out)) ⌝ }
     ensures { λ r. ⌜ Ran r (now (out .exit)) ⌝ }
@@ -70,10 +83,11 @@ fn all_turns(input: &mut [u8], out: &mut [u8]) -> Stopped
         let after = one_turn(input, kept, out);
         kept = after.kept;
         reads += 1;
-        if after.ended || !after.sent || reads == MOST_READS {
+        if after.ended || !after.heard || !after.sent || reads == MOST_READS {
             return Stopped {
                 reads,
                 ended: after.ended,
+                heard: after.heard,
                 sent: after.sent,
             };
         }
@@ -86,8 +100,20 @@ fn room() -> [u8; ROOM]
     [0; ROOM]
 }
 
+// Where not every line has its reply, a line on standard error says so. A program can't choose its exit status, so the launcher goes by that line.
 fn main() {
     let mut input = io::large_buffer();
     let mut out = room();
-    all_turns(&mut input, &mut out);
+    let stopped = all_turns(&mut input, &mut out);
+    if !stopped.sent {
+        io::write_all(
+            STDERR_FILENO,
+            b"tagline: a write to standard output failed: replies are missing\n",
+        );
+    } else if !stopped.ended {
+        io::write_all(
+            STDERR_FILENO,
+            b"tagline: a read from standard input failed: not every line is answered\n",
+        );
+    }
 }

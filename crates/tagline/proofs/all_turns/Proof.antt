@@ -5,7 +5,7 @@ use mathlib.Core.Logic.{⊎-elim, inl, inr}
 use native.Mathlib.Omega.{arith}
 use lib.ListN.{length}
 use borrow.Author.Needs.{needs}
-use borrow.Author.Tests.{eqb-true, eqb-false, not-true}
+use borrow.Author.Tests.{eqb-true, eqb-false, not-true, not-false}
 use Rattle.tagline.specs.Runs.{mostReads}
 use Rattle.tagline.proofs.Runs.{Going, at-start, reads-on, stops}
 use Rattle.tagline.proofs.all_turns.Statement.{statement}
@@ -25,16 +25,20 @@ returns c =
     let t = c .before .before .before .before .before in
     let a = t .before .before .before in
     stops (a .loop .input) (t .one-turn .last .0) (t .one-turn .last .1 .1 .0) (a .loop .kept) (a .loop .reads) (a .loop .inv .2) (t .one-turn .result) (t .one-turn .ensures)
-    (⊎-elim (λ w. inl (w .taken)) (λ w. inr (⊎-elim (λ w. inl (not-true _ (w .2 .taken))) (λ w. inr (eqb-true _ _ (w .3 .taken))) w)) (c .if1 .came))
+    (⊎-elim
+    (λ w. inl (w .taken))
+    (λ w. inr (⊎-elim (λ w. inl (not-true _ (w .2 .taken))) (λ w. inr (⊎-elim (λ w. inl (not-true _ (w .4 .taken))) (λ w. inr (eqb-true _ _ (w .5 .taken))) w)) w))
+    (c .if1 .came))
 
 loop-again : tie.Need-loop-again Inv-loop μ-loop
 loop-again c =
-    let t = c .before .before .before .before .before .before .before .before in
+    let t = c .before .before .before .before .before .before .before .before .before .before in
     let a = t .before .before .before in (
       search needs,
       search needs,
       reads-on (a .loop .input) (t .one-turn .last .0) (t .one-turn .last .1 .1 .0) (a .loop .kept) (a .loop .reads) (a .loop .inv .2) (t .one-turn .result) (t .one-turn .ensures)
-          (c .before .before .before .if1 .left) (omega (arith, eqb-false (a .loop .reads + 1) mostReads (c .if3 .left), a .loop .inv .2 .left)),
+          (not-false _ (c .before .before .before .if2 .left)) (c .before .before .before .before .before .if1 .left)
+          (omega (arith, eqb-false (a .loop .reads + 1) mostReads (c .if4 .left), a .loop .inv .2 .left)),
     )
 
 pub all-turns-spec : {M : Type 1} → statement M
