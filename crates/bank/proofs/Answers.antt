@@ -25,7 +25,7 @@ use Rattle.scheme.specs.declared.record.Reading.{Reading}
 use Rattle.scheme.specs.Outlines.{Narrow}
 use Rattle.scheme.specs.Records.{refusal, readingOf}
 use Rattle.scheme.proofs.Widths.{parts-narrow}
-use Rattle.bank.specs.BitReaders.{LiesInCode, codeField}
+use Rattle.fields.specs.BitReaders.{LiesInCode, codeField}
 use Rattle.bank.specs.Reading.{Coded, shapeOf}
 use Rattle.bank.proofs.Sizes.{Inside, sizes, Roomy, roomy}
 use Rattle.bank.proofs.Stages.{coded-tag}

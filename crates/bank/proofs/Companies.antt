@@ -16,7 +16,7 @@ use Rattle.rules.specs.Conditions.{partitionIn, rowIn}
 use Rattle.rules.specs.BankNumbers.{stringIn, tagOfBank}
 use Rattle.alphabet.specs.Strings.{countOf}
 use Rattle.scheme.specs.Records.{readingOf}
-use Rattle.bank.specs.BitReaders.{LiesInCode, codeField}
+use Rattle.fields.specs.BitReaders.{LiesInCode, codeField}
 use Rattle.bank.specs.declared.reading.Company.{Company}
 use Rattle.bank.specs.declared.reading.Shape.{Shape}
 use Rattle.bank.specs.Reading.{Begun, prefixEnd, shapeOf, groupsAt, GroupsLie}

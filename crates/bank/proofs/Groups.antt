@@ -11,7 +11,7 @@ use Rattle.numeral.proofs.Values.{digits-take, digits-drop}
 use Rattle.numeral.proofs.Spreads.{length-spread, digits-spread, length-gather, gather-part}
 use Rattle.numeral.proofs.Splices.{splice-at}
 use Rattle.rules.proofs.CodeReads.{take-inside}
-use Rattle.bank.specs.BitReaders.{codeField}
+use Rattle.fields.specs.BitReaders.{codeField}
 use Rattle.bank.specs.Reading.{groupsAt}
 
 pub length-groups : (b : List ℕ) (c k : ℕ) → length (groupsAt b c k) ≡ k

@@ -16,7 +16,7 @@ use Rattle.scheme.specs.declared.outlines.Outline.{Outline}
 use Rattle.scheme.specs.declared.outlines.Headed.{Headed}
 use Rattle.scheme.specs.declared.outlines.Headed.the-variants.{Is, Unlisted}
 use Rattle.scheme.specs.Outlines.{outlineOf, named, headedBy}
-use Rattle.bank.specs.BitReaders.{LiesInCode, codeField}
+use Rattle.fields.specs.BitReaders.{LiesInCode, codeField}
 use Rattle.bank.specs.Reading.{endOf, Coded}
 use Rattle.bank.proofs.Sizes.{sizes}
 use Rattle.bank.proofs.Stages.{unlisted, other-words, one-after}

@@ -1,10 +1,8 @@
 -- Laws: of reading, then of writing.
 mod Sizes
-mod Steps
 mod Strings
 mod Groups
 mod Zeros
-pub mod Controls
 mod Stages
 mod Numbers
 mod Parts

@@ -18,7 +18,7 @@ use Rattle.rules.specs.Coding.{wordCount, bankSize}
 use Rattle.rules.specs.Conditions.{partitionIn, rowIn}
 use Rattle.rules.specs.BankNumbers.{decimal, fieldsIn, codeIn}
 use Rattle.rules.proofs.BankReads.{code-seen}
-use Rattle.bank.specs.BitReaders.{codeField}
+use Rattle.fields.specs.BitReaders.{codeField}
 
 -- a part in front, and another in front of that
 in-front : (x y : List ℕ) (a : Answer (List (List ℕ))) → ((a >>= λ ps. taken (y ∷ ps)) >>= λ ps. taken (x ∷ ps)) ≡ (a >>= λ ps. taken (x ∷ y ∷ ps))

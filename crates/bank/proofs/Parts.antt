@@ -24,7 +24,7 @@ use Rattle.rules.proofs.Rows.{row-fair}
 use Rattle.rules.proofs.CodeReads.{take-inside}
 use Rattle.rules.proofs.BankReads.{code-seen}
 use Rattle.scheme.specs.Outlines.{Narrow}
-use Rattle.bank.specs.BitReaders.{codeField}
+use Rattle.fields.specs.BitReaders.{codeField}
 use Rattle.bank.specs.Reading.{prefixEnd, shapeOf, groupsAt}
 use Rattle.bank.proofs.Sizes.{Roomy}
 use Rattle.bank.proofs.Numbers.{decimal-at, small-prefix}

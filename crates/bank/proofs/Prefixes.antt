@@ -15,7 +15,7 @@ use Rattle.rules.specs.declared.Body.{Body}
 use Rattle.rules.specs.declared.Parts.the-variants.{F}
 use Rattle.scheme.specs.declared.rows.Cell.{Cell}
 use Rattle.scheme.specs.Rows.{prefixOf}
-use Rattle.bank.specs.BitReaders.{LiesInCode, codeField}
+use Rattle.fields.specs.BitReaders.{LiesInCode, codeField}
 use Rattle.bank.specs.Reading.{Coded, prefixEnd, Begun}
 use Rattle.bank.proofs.Sizes.{roomy}
 use Rattle.bank.proofs.Answers as Answers

@@ -29,7 +29,7 @@ use Rattle.alphabet.proofs.Counts.{count-taken, count-refused}
 use Rattle.scheme.specs.declared.record.Record.{Record}
 use Rattle.scheme.specs.Outlines.{Narrow}
 use Rattle.scheme.specs.Records.{filterOf, prefixOf, digitsOf, referenceOf, serialOf, charactersOf, padded, recordOf, readingOf}
-use Rattle.bank.specs.BitReaders.{codeField}
+use Rattle.fields.specs.BitReaders.{codeField}
 use Rattle.bank.specs.declared.reading.Shape.{Shape}
 use Rattle.bank.specs.Reading.{shapeOf, groupsAt}
 use Rattle.bank.proofs.Parts.{start, answered, stringOf, no-bits}

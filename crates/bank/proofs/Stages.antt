@@ -16,7 +16,7 @@ use Rattle.rules.specs.BankNumbers.{allZero, headed, codeIn, fieldsIn, controlI
 use Rattle.rules.proofs.Codes.{sizes}
 use Rattle.rules.proofs.BankReads.{Clean, clean-of, code-seen}
 use Rattle.rules.specs.declared.Parts.{Parts}
-use Rattle.bank.specs.BitReaders.{codeField}
+use Rattle.fields.specs.BitReaders.{codeField}
 use Rattle.bank.specs.Reading.{endOf, Coded}
 use Rattle.bank.proofs.Zeros.{zeros-seen}
 

@@ -15,7 +15,7 @@ use Rattle.rules.specs.Coding.{wordCount, bankSize}
 use Rattle.rules.specs.BankNumbers.{allZero, codeIn}
 use Rattle.rules.proofs.Groups.{zeros-of, zeros-is}
 use Rattle.rules.proofs.BankReads.{code-bits, code-length, code-seen}
-use Rattle.bank.specs.BitReaders.{codeField}
+use Rattle.fields.specs.BitReaders.{codeField}
 
 value-zeros : (n : ℕ) → value 2 (replicate n 0) ≡ 0
 unfolding value

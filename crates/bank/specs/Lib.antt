@@ -1,5 +1,3 @@
 -- The terms in which the contracts of this crate speak, beside the written rules.
-pub mod BitReaders
-pub mod Controls
 pub mod Reading
 pub mod Writing

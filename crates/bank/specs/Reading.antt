@@ -18,7 +18,7 @@ use Rattle.rules.specs.BankNumbers.{headed, controlIn}
 use Rattle.rules.specs.Conditions.{partitionIn, rowIn}
 use Rattle.scheme.specs.declared.rows.Cell.{Cell}
 use Rattle.scheme.specs.Rows.{referenceOf}
-use Rattle.bank.specs.BitReaders.{codeField}
+use Rattle.fields.specs.BitReaders.{codeField}
 use Rattle.bank.specs.declared.reading.Company.{Company}
 use Rattle.bank.specs.declared.reading.Shape.{Shape}
 

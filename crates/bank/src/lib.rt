@@ -1,6 +1,4 @@
 // The bank of a tag: read to the record of its tag, written from it; and the raw line of any bank.
-pub mod bitreader;
-pub mod control;
 mod eights;
 pub mod raw;
 pub mod reading;

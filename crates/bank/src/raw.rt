@@ -1,7 +1,7 @@
 // The raw line of a bank (document 01, "The bank"). Each `put_` function writes a piece of it from index `at` on, and returns the index
 // after the piece.
-use super::bitreader::field_at;
-use super::control::size;
+use fields::bitreader::field_at;
+use fields::control::size;
 use scheme::counts::BankAddress;
 use scheme::counts::CodeBit;
 ghost use mathlib.Core.List.{_++_};

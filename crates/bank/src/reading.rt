@@ -1,8 +1,8 @@
 // A bank to the record of its tag: the rules 9 to 19, in their order (document 01, "Numbers given, and when"). Each function goes on where
 // the one before it stopped, and returns the whole bank's result.
-use super::bitreader::take;
-use super::control;
 use super::eights;
+use fields::bitreader::take;
+use fields::control;
 use rules::Body;
 use rules::Last;
 use rules::MOST_CHARACTERS;

@@ -1,8 +1,8 @@
 // The bank of a tag, written from its record (document 01, "The bank"): one stream of bits, in order. Each `put_` function takes the
 // stream, adds its bits, and returns the stream behind them.
-use super::control::size;
 use super::eights;
 use bits::Stream;
+use fields::control::size;
 use rules::Body;
 use rules::Last;
 use rules::MOST_CHARACTERS;

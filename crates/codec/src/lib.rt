@@ -58,7 +58,7 @@ pub fn raw_line(bank: &[u8], out: &mut [u8]) -> Answer
     if out.len() < TEXT_ROOM {
         return Answer::Refused(refusal::OUTPUT_TOO_SHORT);
     }
-    let control = bank::control::words(bank);
+    let control = fields::control::words(bank);
     if control.number != 0 {
         return Answer::Refused(control.number);
     }

@@ -7,7 +7,7 @@ use Rattle.rules.specs.Raw.{rawText, rawOfBank}
 use Rattle.rules.specs.Calls.{textRoom, rawLine}
 use Rattle.rules.proofs.BankReads.{words-reads}
 use Rattle.digits.proofs.Joins.{from-start}
-use Rattle.bank.proofs.Controls.{is-refused, is-taken}
+use Rattle.fields.proofs.Controls.{is-refused, is-taken}
 use Rattle.codec.proofs.Ends.{short, refuses, writes}
 use Rattle.codec.proofs.RawAnswers.{raw-refused, raw-taken}
 use Rattle.codec.proofs.raw_line.Statement.{statement}

@@ -5,10 +5,10 @@ use mathlib.Core.Logic.{_⊎_, ⊎-elim, inl, inr}
 use native.Mathlib.Omega.{arith}
 use borrow.Author.Needs.{needs}
 use denote.Ref.{now}
-use Rattle.bank.specs.BitReaders.{codeField}
+use Rattle.fields.specs.BitReaders.{codeField}
 use Rattle.bank.proofs.Answers.{refuses}
 use Rattle.bank.proofs.Companies.{listed, room, reference-lies, serial-lies, groups-lie, groups-within, large, wrong, right}
-use Rattle.bank.proofs.Steps.{behind, taken}
+use Rattle.fields.proofs.Steps.{behind, taken}
 use Rattle.bank.proofs.reading.behind_prefix.Statement.{statement}
 use Rattle.bank.proofs.reading.behind_prefix.Tie as tie
 

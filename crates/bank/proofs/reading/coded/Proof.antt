@@ -9,11 +9,11 @@ use lib.ListN.{length}
 use Rattle.rules.specs.declared.Scheme.{Scheme}
 use Rattle.rules.specs.declared.Parts.{Parts}
 use Rattle.rules.proofs.BankReads.{at-lt}
-use Rattle.bank.specs.BitReaders.{codeField}
+use Rattle.fields.specs.BitReaders.{codeField}
 use Rattle.bank.specs.Reading.{Coded}
 use Rattle.bank.proofs.Answers.{refuses}
 use Rattle.bank.proofs.Headers.{Ended, header-lies, no-scheme, wrong-words, ended, not-zero, coded}
-use Rattle.bank.proofs.Steps.{behind, taken}
+use Rattle.fields.proofs.Steps.{behind, taken}
 use Rattle.bank.proofs.reading.coded.Statement.{statement}
 use Rattle.bank.proofs.reading.coded.Tie as tie
 

@@ -9,7 +9,7 @@ use Rattle.rules.specs.Schemes.{words}
 use Rattle.scheme.specs.Outlines.{Narrow}
 use Rattle.scheme.proofs.Widths.{parts-narrow}
 use Rattle.bank.proofs.Sizes.{Inside, sizes}
-use Rattle.bank.proofs.Steps.{behind, taken}
+use Rattle.fields.proofs.Steps.{behind, taken}
 use Rattle.bank.proofs.Answers.{lies, three-integers}
 use Rattle.bank.proofs.reading.general.Statement.{statement}
 use Rattle.bank.proofs.reading.general.Tie as tie

@@ -8,7 +8,7 @@ use lib.ListN.{length}
 use lib.Seq.{take-all}
 use Rattle.bank.specs.Reading.{groupsAt}
 use Rattle.bank.proofs.Groups.{Stored, length-groups, length-stored, next-groups}
-use Rattle.bank.proofs.Steps.{behind, taken}
+use Rattle.fields.proofs.Steps.{behind, taken}
 use Rattle.bank.proofs.reading.groups.Statement.{statement}
 use Rattle.bank.proofs.reading.groups.Tie as tie
 

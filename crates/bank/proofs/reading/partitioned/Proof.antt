@@ -4,10 +4,10 @@ use mathlib.Core.Path.{_≡_, _∙_}
 use native.Mathlib.Omega.{arith}
 use borrow.Author.Needs.{needs}
 use denote.Ref.{now}
-use Rattle.bank.specs.BitReaders.{codeField}
+use Rattle.fields.specs.BitReaders.{codeField}
 use Rattle.bank.proofs.Answers.{refuses, prefix-inside, lies}
 use Rattle.bank.proofs.Prefixes.{no-row, listed, few-digits, prefix-lies, large-prefix, begun, prefix-ends}
-use Rattle.bank.proofs.Steps.{behind, taken}
+use Rattle.fields.proofs.Steps.{behind, taken}
 use Rattle.bank.proofs.reading.partitioned.Statement.{statement}
 use Rattle.bank.proofs.reading.partitioned.Tie as tie
 

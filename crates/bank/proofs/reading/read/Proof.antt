@@ -6,7 +6,7 @@ use Rattle.rules.specs.Answers.{refused}
 use Rattle.rules.specs.BankNumbers.{controlIn, tagOfBank}
 use Rattle.rules.proofs.BankReads.{control-reads}
 use Rattle.bank.proofs.Answers.{refuses}
-use Rattle.bank.proofs.Controls.{is-refused, is-taken}
+use Rattle.fields.proofs.Controls.{is-refused, is-taken}
 use Rattle.bank.proofs.reading.read.Statement.{statement}
 use Rattle.bank.proofs.reading.read.Tie as tie
 

@@ -3,8 +3,8 @@ use Prim.Native.Nat.{ℕ, _+_}
 use mathlib.Core.Path.{_≡_, ap, _∙_}
 use mathlib.Core.List.{List}
 use Rattle.scheme.specs.declared.counts.CodeBit.{CodeBit}
-use Rattle.bank.specs.BitReaders.{codeField, stepOf}
-use Rattle.bank.specs.declared.bitreader.Step.{Step}
+use Rattle.fields.specs.BitReaders.{codeField, stepOf}
+use Rattle.fields.specs.declared.bitreader.Step.{Step}
 
 module _ (b : List ℕ) (at : CodeBit) (width : ℕ) {r : Step} (e : r ≡ stepOf b at width) where
   pub behind : r .at .0 ≡ at .0 + width

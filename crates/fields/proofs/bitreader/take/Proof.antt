@@ -42,28 +42,28 @@ use denote.Triple.Clauses.{ensured, lasts}
 use Rattle.scheme.specs.declared.counts.CodeBit.{CodeBit}
 use Rattle.scheme.proofs.counts.CodeBit as K
 use Rattle.scheme.proofs.counts.CodeBit.Laws as K′
-use Rattle.bank.specs.BitReaders.{LiesInCode, stepOf, readerOf, takenOf}
-use Rattle.bank.specs.declared.bitreader.BitReader.{BitReader}
-use Rattle.bank.specs.declared.bitreader.Step.{Step}
-use Rattle.bank.specs.declared.bitreader.Taken.{Taken}
-use Rattle.bank.proofs.bitreader.Step as S
-use Rattle.bank.proofs.bitreader.Step.Laws as S′
-use Rattle.bank.proofs.bitreader.BitReader as T
-use Rattle.bank.proofs.bitreader.BitReader.Laws as T′
-use Rattle.bank.proofs.bitreader.Taken as U
-use Rattle.bank.proofs.bitreader.Taken.Laws as U′
-use Rattle.bank.proofs.bitreader.BitReader.new as new
-use Rattle.bank.proofs.bitreader.BitReader.new.Symbol as new-def
-use Rattle.bank.proofs.bitreader.BitReader.new.Symbol.{name as #new}
-use Rattle.bank.proofs.bitreader.BitReader.new.Met as new-thm
-use Rattle.bank.proofs.bitreader.BitReader.take as method
-use Rattle.bank.proofs.bitreader.BitReader.take.Symbol as method-def
-use Rattle.bank.proofs.bitreader.BitReader.take.Symbol.{name as #method}
-use Rattle.bank.proofs.bitreader.BitReader.take.Met as method-thm
-use Rattle.bank.proofs.bitreader.take.Key.{name as #take}
-use Rattle.bank.proofs.bitreader.take as take
-use Rattle.bank.proofs.bitreader.take.Statement as stated
-use Rattle.bank.proofs.bitreader.take.Code as code
+use Rattle.fields.specs.BitReaders.{LiesInCode, stepOf, readerOf, takenOf}
+use Rattle.fields.specs.declared.bitreader.BitReader.{BitReader}
+use Rattle.fields.specs.declared.bitreader.Step.{Step}
+use Rattle.fields.specs.declared.bitreader.Taken.{Taken}
+use Rattle.fields.proofs.bitreader.Step as S
+use Rattle.fields.proofs.bitreader.Step.Laws as S′
+use Rattle.fields.proofs.bitreader.BitReader as T
+use Rattle.fields.proofs.bitreader.BitReader.Laws as T′
+use Rattle.fields.proofs.bitreader.Taken as U
+use Rattle.fields.proofs.bitreader.Taken.Laws as U′
+use Rattle.fields.proofs.bitreader.BitReader.new as new
+use Rattle.fields.proofs.bitreader.BitReader.new.Symbol as new-def
+use Rattle.fields.proofs.bitreader.BitReader.new.Symbol.{name as #new}
+use Rattle.fields.proofs.bitreader.BitReader.new.Met as new-thm
+use Rattle.fields.proofs.bitreader.BitReader.take as method
+use Rattle.fields.proofs.bitreader.BitReader.take.Symbol as method-def
+use Rattle.fields.proofs.bitreader.BitReader.take.Symbol.{name as #method}
+use Rattle.fields.proofs.bitreader.BitReader.take.Met as method-thm
+use Rattle.fields.proofs.bitreader.take.Key.{name as #take}
+use Rattle.fields.proofs.bitreader.take as take
+use Rattle.fields.proofs.bitreader.take.Statement as stated
+use Rattle.fields.proofs.bitreader.take.Code as code
 
 -- a reader's type, and that of what it takes, over the signature's lifetimes
 abbrev B : Lfts 1 → RattleType
@@ -213,5 +213,5 @@ take-spec 𝓤 H 𝓜 𝓖 𝓡 =
     entered 𝓤 H (tripleOf 𝓤 H (𝓖 .A) take.signature (take.spec 𝓤 H (𝓖 .A) (𝓜 .mem) (𝓡 .run)))
     (tables 𝓤 H 𝓜 𝓡 code.env .C) (tables 𝓤 H 𝓜 𝓡 code.env .Λ) #take code.function (code.unfolded 𝓤 H 𝓜 𝓡)
     (take-meets 𝓤 H (𝓖 .A) (givenOf 𝓤 H 𝓜 𝓖) (𝓜 .mem) (𝓡 .run) (tablesOf 𝓤 H 𝓜 (tables 𝓤 H 𝓜 𝓡 code.env))
-    (cited 𝓤 H (New 𝓤 H (𝓖 .A) (𝓜 .mem) (𝓡 .run)) 𝓜 𝓡 code.env #new new-def.routine code.calls-bank·bitreader·BitReader·new (new-thm.met 𝓤 H 𝓜 𝓖 𝓡))
-    (cited 𝓤 H (Take 𝓤 H (𝓖 .A) (𝓜 .mem) (𝓡 .run)) 𝓜 𝓡 code.env #method method-def.routine code.calls-bank·bitreader·BitReader·take (method-thm.met 𝓤 H 𝓜 𝓖 𝓡)))
+    (cited 𝓤 H (New 𝓤 H (𝓖 .A) (𝓜 .mem) (𝓡 .run)) 𝓜 𝓡 code.env #new new-def.routine code.calls-fields·bitreader·BitReader·new (new-thm.met 𝓤 H 𝓜 𝓖 𝓡))
+    (cited 𝓤 H (Take 𝓤 H (𝓖 .A) (𝓜 .mem) (𝓡 .run)) 𝓜 𝓡 code.env #method method-def.routine code.calls-fields·bitreader·BitReader·take (method-thm.met 𝓤 H 𝓜 𝓖 𝓡)))

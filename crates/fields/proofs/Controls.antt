@@ -11,9 +11,9 @@ use Rattle.rules.specs.BankNumbers.{wordsIn, controlIn}
 use Rattle.rules.specs.Conditions.{Rule}
 use Rattle.rules.proofs.Answers.{Reads}
 use Rattle.rules.proofs.BankReads.{at-lt, words-reads, words-of}
-use Rattle.bank.specs.BitReaders.{Lies}
-use Rattle.bank.specs.Controls.{controlOf}
-use Rattle.bank.specs.declared.control.Control.{Control}
+use Rattle.fields.specs.BitReaders.{Lies}
+use Rattle.fields.specs.Controls.{controlOf}
+use Rattle.fields.specs.declared.control.Control.{Control}
 
 -- What the code's answer c says of the rules' answer a.
 pub refuses : (a : Answer ℕ) (n : ℕ) (c : Control) → c ≡ controlOf (refused n) → a ≡ refused n → c ≡ controlOf a

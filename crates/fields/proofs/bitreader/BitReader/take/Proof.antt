@@ -42,26 +42,26 @@ use denote.Triple.Table.{entered, cited}
 use denote.Triple.Walked.{says, needs, Stays, stay-none, walkOf, goes-none, Walks, ends-at, walked, walk-meets}
 use denote.Exit.{yes}
 use denote.Triple.Clauses.{ensured, lasts}
-use Rattle.bank.specs.declared.bitreader.BitReader.{BitReader}
-use Rattle.bank.specs.BitReaders.{LiesInCode, stepOf, takenOf}
-use Rattle.bank.specs.declared.bitreader.Step.{Step}
-use Rattle.bank.specs.declared.bitreader.Taken.{Taken}
-use Rattle.bank.proofs.bitreader.Step as S
-use Rattle.bank.proofs.bitreader.Step.Laws as S′
-use Rattle.bank.proofs.bitreader.Taken as U
-use Rattle.bank.proofs.bitreader.Taken.Laws as U′
+use Rattle.fields.specs.declared.bitreader.BitReader.{BitReader}
+use Rattle.fields.specs.BitReaders.{LiesInCode, stepOf, takenOf}
+use Rattle.fields.specs.declared.bitreader.Step.{Step}
+use Rattle.fields.specs.declared.bitreader.Taken.{Taken}
+use Rattle.fields.proofs.bitreader.Step as S
+use Rattle.fields.proofs.bitreader.Step.Laws as S′
+use Rattle.fields.proofs.bitreader.Taken as U
+use Rattle.fields.proofs.bitreader.Taken.Laws as U′
 use Rattle.scheme.proofs.counts.CodeBit as K
 use Rattle.scheme.proofs.counts.CodeBit.Laws as K′
-use Rattle.bank.proofs.bitreader.BitReader as T
-use Rattle.bank.proofs.bitreader.BitReader.Laws as T′
-use Rattle.bank.proofs.bitreader.step_at as step
-use Rattle.bank.proofs.bitreader.step_at.Symbol as step-def
-use Rattle.bank.proofs.bitreader.step_at.Symbol.{name as #step-at}
-use Rattle.bank.proofs.bitreader.step_at.Met as step-thm
-use Rattle.bank.proofs.bitreader.BitReader.take.Key.{name as #take}
-use Rattle.bank.proofs.bitreader.BitReader.take as take
-use Rattle.bank.proofs.bitreader.BitReader.take.Statement as stated
-use Rattle.bank.proofs.bitreader.BitReader.take.Code as code
+use Rattle.fields.proofs.bitreader.BitReader as T
+use Rattle.fields.proofs.bitreader.BitReader.Laws as T′
+use Rattle.fields.proofs.bitreader.step_at as step
+use Rattle.fields.proofs.bitreader.step_at.Symbol as step-def
+use Rattle.fields.proofs.bitreader.step_at.Symbol.{name as #step-at}
+use Rattle.fields.proofs.bitreader.step_at.Met as step-thm
+use Rattle.fields.proofs.bitreader.BitReader.take.Key.{name as #take}
+use Rattle.fields.proofs.bitreader.BitReader.take as take
+use Rattle.fields.proofs.bitreader.BitReader.take.Statement as stated
+use Rattle.fields.proofs.bitreader.BitReader.take.Code as code
 
 -- the struct's type, over the signature's lifetimes
 abbrev B : Lfts 1 → RattleType
@@ -203,4 +203,4 @@ take-spec 𝓤 H 𝓜 𝓖 𝓡 =
     entered 𝓤 H (tripleOf 𝓤 H (𝓖 .A) take.signature (take.spec 𝓤 H (𝓖 .A) (𝓜 .mem) (𝓡 .run)))
     (tables 𝓤 H 𝓜 𝓡 code.env .C) (tables 𝓤 H 𝓜 𝓡 code.env .Λ) #take code.function (code.unfolded 𝓤 H 𝓜 𝓡)
     (take-meets 𝓤 H (𝓖 .A) (givenOf 𝓤 H 𝓜 𝓖) (𝓜 .mem) (𝓡 .run) (tablesOf 𝓤 H 𝓜 (tables 𝓤 H 𝓜 𝓡 code.env))
-    (cited 𝓤 H (StepAt 𝓤 H (𝓖 .A) (𝓜 .mem) (𝓡 .run)) 𝓜 𝓡 code.env #step-at step-def.routine code.calls-bank·bitreader·step-at (step-thm.met 𝓤 H 𝓜 𝓖 𝓡)))
+    (cited 𝓤 H (StepAt 𝓤 H (𝓖 .A) (𝓜 .mem) (𝓡 .run)) 𝓜 𝓡 code.env #step-at step-def.routine code.calls-fields·bitreader·step-at (step-thm.met 𝓤 H 𝓜 𝓖 𝓡)))

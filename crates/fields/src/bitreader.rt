@@ -5,7 +5,7 @@ use scheme::counts::CodeBit;
 ghost use mathlib.Core.Path.{_≡_};
 ghost use lib.ListN.{length};
 ghost use Rattle.rules.specs.Coding.{at};
-ghost use Rattle.bank.specs.BitReaders.{Lies, LiesInCode, stepOf, readerOf, takenOf};
+ghost use Rattle.fields.specs.BitReaders.{Lies, LiesInCode, stepOf, readerOf, takenOf};
 
 // The number in the `width` bits from a bank address on.
 pub fn field_at(bank: &[u8], a: BankAddress, width: usize) -> u64

@@ -5,9 +5,9 @@ use denote.Ref.{RefT, now}
 use Rattle.rules.specs.Coding.{at}
 use Rattle.scheme.specs.declared.counts.CodeBit.{CodeBit}
 use Rattle.scheme.specs.Counts.{behindOf}
-use Rattle.bank.specs.declared.bitreader.Step.{Step}
-use Rattle.bank.specs.declared.bitreader.BitReader.{BitReader}
-use Rattle.bank.specs.declared.bitreader.Taken.{Taken}
+use Rattle.fields.specs.declared.bitreader.Step.{Step}
+use Rattle.fields.specs.declared.bitreader.BitReader.{BitReader}
+use Rattle.fields.specs.declared.bitreader.Taken.{Taken}
 
 -- the `width` bits from an address on fit a word of 64 bits and lie in so many bytes of a bank, which starts at address 10h; the
 -- address is small, so that no sum of it overflows

@@ -3,8 +3,8 @@ use mathlib.Core.Path.{ap, _∙_}
 use borrow.Author.Needs.{needs}
 use denote.Ref.{now}
 use Rattle.rules.specs.Coding.{at}
-use Rattle.bank.proofs.bitreader.step_at.Statement.{statement}
-use Rattle.bank.proofs.bitreader.step_at.Tie as tie
+use Rattle.fields.proofs.bitreader.step_at.Statement.{statement}
+use Rattle.fields.proofs.bitreader.step_at.Tie as tie
 
 returns : tie.Need-returns
 returns c =

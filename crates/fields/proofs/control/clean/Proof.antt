@@ -3,9 +3,9 @@ use mathlib.Core.Path.{sym, _∙_}
 use lib.Dec.{lit≤}
 use borrow.Author.Needs.{needs}
 use denote.Ref.{now}
-use Rattle.bank.proofs.Controls.{refuses, same-refusal, lies, toggled, control-bits, attribute-bits, in-order}
-use Rattle.bank.proofs.control.clean.Statement.{statement}
-use Rattle.bank.proofs.control.clean.Tie as tie
+use Rattle.fields.proofs.Controls.{refuses, same-refusal, lies, toggled, control-bits, attribute-bits, in-order}
+use Rattle.fields.proofs.control.clean.Statement.{statement}
+use Rattle.fields.proofs.control.clean.Tie as tie
 
 toggle : tie.Need-returns-2
 toggle c =

@@ -37,14 +37,14 @@ use denote.Exit.{yes}
 use Rattle.scheme.specs.declared.counts.CodeBit.{CodeBit}
 use Rattle.scheme.proofs.counts.CodeBit as K
 use Rattle.scheme.proofs.counts.CodeBit.Laws as K′
-use Rattle.bank.specs.BitReaders.{readerOf}
-use Rattle.bank.specs.declared.bitreader.BitReader.{BitReader}
-use Rattle.bank.proofs.bitreader.BitReader as T
-use Rattle.bank.proofs.bitreader.BitReader.Laws as T′
-use Rattle.bank.proofs.bitreader.BitReader.new.Key.{name as #new}
-use Rattle.bank.proofs.bitreader.BitReader.new as new
-use Rattle.bank.proofs.bitreader.BitReader.new.Statement as stated
-use Rattle.bank.proofs.bitreader.BitReader.new.Code as code
+use Rattle.fields.specs.BitReaders.{readerOf}
+use Rattle.fields.specs.declared.bitreader.BitReader.{BitReader}
+use Rattle.fields.proofs.bitreader.BitReader as T
+use Rattle.fields.proofs.bitreader.BitReader.Laws as T′
+use Rattle.fields.proofs.bitreader.BitReader.new.Key.{name as #new}
+use Rattle.fields.proofs.bitreader.BitReader.new as new
+use Rattle.fields.proofs.bitreader.BitReader.new.Statement as stated
+use Rattle.fields.proofs.bitreader.BitReader.new.Code as code
 
 abbrev stayed : Stays (new.ended .signature .params) (new.ended .kept)
 stayed = (stay-none-slice (0 ∷ []) tt (plain (λ _. u8)) yes, (stay-none (λ _. K.the-row) yes, tt))

@@ -7,7 +7,7 @@ ghost use Prim.Native.Nat.{_<_};
 ghost use Rattle.rules.specs.Answers.{refused as refusedWith};
 ghost use Rattle.rules.specs.Coding.{bankSize};
 ghost use Rattle.rules.specs.BankNumbers.{wordsIn, controlIn};
-ghost use Rattle.bank.specs.Controls.{controlOf};
+ghost use Rattle.fields.specs.Controls.{controlOf};
 
 // The word count W of a bank, and the number of the first of the rules that refuses it. The number is 0 where none does; otherwise W is 0.
 pub struct Control {

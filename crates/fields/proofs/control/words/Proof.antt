@@ -2,10 +2,10 @@
 use mathlib.Core.Path.{_≡_, sym, ap}
 use borrow.Author.Needs.{needs}
 use denote.Ref.{now}
-use Rattle.bank.specs.Controls.{controlOf}
-use Rattle.bank.proofs.Controls.{refuses, no-bytes, few-words, few-bytes, no-words, words-are}
-use Rattle.bank.proofs.control.words.Statement.{statement}
-use Rattle.bank.proofs.control.words.Tie as tie
+use Rattle.fields.specs.Controls.{controlOf}
+use Rattle.fields.proofs.Controls.{refuses, no-bytes, few-words, few-bytes, no-words, words-are}
+use Rattle.fields.proofs.control.words.Statement.{statement}
+use Rattle.fields.proofs.control.words.Tie as tie
 
 counted : tie.Need-returns-4
 counted c = sym (ap controlOf (words-are (now (c .before .before .before .before .before .before .args .bank)) (search needs) _ (c .before .before .before .field-at .ensures) (search needs) (c .if3 .left)))

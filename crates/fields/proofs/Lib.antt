@@ -1,0 +1,3 @@
+-- Laws: of a step over the code, then of the control word.
+pub mod Steps
+pub mod Controls
