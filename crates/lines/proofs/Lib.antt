@@ -1,10 +1,5 @@
--- The laws of lines and replies.
-pub mod Hexes
-pub mod Pieces
-pub mod Answered
-pub mod Refusals
-pub mod Screens
-pub mod Sizes
+-- The laws of lines and turns.
+pub mod Holds
 pub mod Splits
 pub mod Passes
 pub mod Turns

@@ -9,11 +9,16 @@ use borrow.Rule.Slice.PartMut.{mid-len}
 use Rattle.numeral.specs.Numeral.{splice}
 use Rattle.numeral.proofs.Splices.{length-splice, take-splice, drop-splice, splice-front}
 use Rattle.rules.specs.Bytes.{upto}
-use Rattle.lines.specs.Lines.{feed, printed, outputOf, Wrote, replyRoom, inputRoom}
+use Rattle.replies.specs.Replies.{replyOf}
+use Rattle.replies.specs.Writing.{Wrote, replyRoom}
+use Rattle.lines.specs.Lines.{feed, printed, outputOf, inputRoom}
 use Rattle.lines.specs.Turns.{whole}
-use Rattle.lines.proofs.Pieces.{part, back, put-back}
-use Rattle.lines.proofs.Sizes.{printed-long}
+use Rattle.replies.proofs.Pieces.{part, back, put-back}
+use Rattle.replies.proofs.Sizes.{reply-grows}
 use Rattle.lines.proofs.Splits.{no-output, none-ended, not-ended, the-line, ended-is, output-is}
+
+printed-long : (l : List ℕ) → length (printed l) ≤ 4 * (length l + 1)
+printed-long l = rw (length-append (replyOf l) (feed ∷ [])) (omega (arith, reply-grows l))
 
 -- up to the places `read` and `written`
 pub record Passed (input out₀ out : List ℕ) (read written : ℕ) : Type 0 where

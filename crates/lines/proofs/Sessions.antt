@@ -16,8 +16,8 @@ use Rattle.rules.specs.TextNumbers.{after}
 use Rattle.rules.proofs.Runs.{without}
 use Rattle.rules.proofs.Tests.{both, and}
 use Rattle.digits.specs.Starts.{begun}
-use Rattle.lines.specs.Hex.{mostDigits, isBank}
-use Rattle.lines.specs.Replies.{mostCharacters, replyX, replyOf}
+use Rattle.replies.specs.Hex.{mostDigits, isBank}
+use Rattle.replies.specs.Replies.{mostCharacters, replyX, replyOf}
 use Rattle.lines.specs.Lines.{feed, printed, outputOf}
 use Rattle.lines.specs.Turns.{whole, mostKept, endReply, Turn, turnOf, session, inputOf}
 use Rattle.lines.proofs.Splits.{Unfed, unfed-append, last-line, no-output, none-ended, first-output, first-ended}

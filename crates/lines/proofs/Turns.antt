@@ -8,10 +8,11 @@ use lib.Dec.{lit≤}
 use lib.ListN.{length, take, drop, length-take, length-drop, take-append-drop, drop-of-length-le}
 use lib.Seq.{take-all, take-nil, drop-nil, take-add, take-at, drop-at, length-take-le}
 use borrow.Author.Tests.{le-leb, lt-leb}
-use Rattle.lines.specs.Lines.{outputOf, Wrote, inputRoom}
+use Rattle.replies.specs.Writing.{Wrote}
+use Rattle.lines.specs.Lines.{outputOf, inputRoom}
 use Rattle.lines.specs.Turns.{finished, whole, mostKept, kept, endReply, Turn, turnOf, turnAt, seen, Took}
 use Rattle.lines.specs.declared.Turned.{Turned}
-use Rattle.lines.proofs.Pieces.{wrote-nothing, wrote-part, one-writing}
+use Rattle.replies.proofs.Pieces.{wrote-nothing, wrote-part, one-writing}
 
 pub whole-within : (input : List ℕ) → length (whole input) ≤ length input
 unfolding whole

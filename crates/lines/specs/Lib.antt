@@ -1,5 +1,3 @@
--- The lines of tagline (document 01, the paragraph before "How to write each place").
-pub mod Hex
-pub mod Replies
+-- The lines of tagline, and an input that is read in pieces (document 01, the paragraph before "How to write each place").
 pub mod Lines
 pub mod Turns

@@ -4,9 +4,8 @@ use mathlib.Core.List.{List, [], _∷_, _++_}
 use mathlib.Core.Bool.{cond}
 use lib.Dec.{leb, eqb}
 use lib.ListN.{length}
-use Rattle.rules.specs.Calls.{textRoom}
-use Rattle.digits.specs.Pieces.{Puts}
-use Rattle.lines.specs.Replies.{replyOf}
+use Rattle.replies.specs.Replies.{replyOf}
+use Rattle.replies.specs.Writing.{replyRoom}
 
 abbrev pub feed : ℕ
 feed = 0x0A
@@ -36,21 +35,9 @@ outputOf input = each (linesOf input)
 
 -- WRITING
 
--- w was written at the start of `out`, which is `after` then; n is its length
-abbrev pub Wrote : List ℕ → List ℕ → ℕ → List ℕ → Type 0
-Wrote w out n after = Puts w 0 out n after
-
 -- w, if the output has room; nothing, if it is shorter
 abbrev pub ifRoom : ℕ → List ℕ → List ℕ → List ℕ
 ifRoom room out w = cond (leb room (length out)) w []
-
--- so many bytes stand before a raw line: a letter, a number of two digits, and a space behind each
-abbrev pub afterNumber : ℕ
-afterNumber = 5
-
--- the room for any reply: the codec's for a raw line, and what stands before it
-abbrev pub replyRoom : ℕ
-replyRoom = afterNumber + textRoom
 
 -- a reply with its line feed is at most so many times as long as its line with its own
 abbrev pub growth : ℕ

@@ -5,8 +5,9 @@ use mathlib.Core.List.{List, [], _∷_, _++_}
 use mathlib.Core.Bool.{Bool, true, false, cond}
 use lib.ListN.{length, take, drop}
 use Rattle.rules.specs.Bytes.{among}
-use Rattle.lines.specs.Replies.{mostCharacters}
-use Rattle.lines.specs.Lines.{feed, printed, outputOf, Wrote, ifRoom, inputRoom}
+use Rattle.replies.specs.Replies.{mostCharacters}
+use Rattle.replies.specs.Writing.{Wrote}
+use Rattle.lines.specs.Lines.{feed, printed, outputOf, ifRoom, inputRoom}
 use Rattle.lines.specs.declared.Turned.{Turned}
 
 -- how many bytes stand up to the last line feed, it included

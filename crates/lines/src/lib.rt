@@ -1,23 +1,20 @@
 // The lines of tagline (document 01), each to its reply; and the turns of a session, in which an input is read in pieces of any size. Nothing
 // here reads or writes: a program does, and hands over what each read gave.
-mod choice;
-mod hex;
-mod letters;
-
-pub use choice::REPLY_ROOM;
+pub use replies::REPLY_ROOM;
 ghost use mathlib.Core.Path.{_≡_};
 ghost use Prim.Native.Nat.{_+_, _*_, _≤_};
 ghost use lib.Dec.{leb};
 ghost use lib.ListN.{length, drop};
 ghost use Rattle.rules.specs.Bytes.{upto};
-ghost use Rattle.lines.specs.Lines.{feed, printed, outputOf, Wrote, ifRoom, replyRoom, growth, inputRoom};
+ghost use Rattle.replies.specs.Writing.{Wrote, replyRoom};
+ghost use Rattle.lines.specs.Lines.{feed, printed, outputOf, ifRoom, growth, inputRoom};
 ghost use Rattle.lines.specs.Turns.{whole, kept, endReply, turnAt, seen, Took};
 
 // A reply with its line feed is at most so many times as long as its line with its own.
 pub const GROWTH: usize = 4;
 
 // At most so many bytes are kept of a line that has not ended: one more than a line may have. A line that long is answered X, whatever follows.
-const MOST_KEPT: usize = choice::MOST_CHARACTERS + 1;
+const MOST_KEPT: usize = replies::MOST_CHARACTERS + 1;
 
 // Writes the reply to a line, with a line feed, at the output's start, and answers its length. An output shorter than `REPLY_ROOM` gets nothing.
 pub fn reply(line: &[u8], out: &mut [u8]) -> usize
@@ -26,7 +23,7 @@ pub fn reply(line: &[u8], out: &mut [u8]) -> usize
     if out.len() < REPLY_ROOM {
         return 0;
     }
-    let n = choice::write(line, out);
+    let n = replies::write(line, out);
     out[n] = b'\n';
     n + 1
 }
@@ -63,7 +60,7 @@ struct Done {
 }
 
 // Writes the replies to all lines of the input that have ended, one after the other from the output's start on.
-fn replies(input: &[u8], out: &mut [u8]) -> Done
+fn answer_ended(input: &[u8], out: &mut [u8]) -> Done
     requires { ⌜ inputRoom (now input) ≤ length (now out) ⌝ }
     ensures { λ r. ⌜ r .read ≡ length (whole (now (input .entry))) ⌝ }
     ensures { λ r. ⌜ Wrote (outputOf (whole (now (input .entry)))) (now (out .entry)) (r .written) (now (out .exit)) ⌝ }
@@ -133,7 +130,7 @@ pub fn turn(input: &mut [u8], kept: usize, out: &mut [u8]) -> Turned
             ended: true,
         };
     }
-    let done = replies(input, out);
+    let done = answer_ended(input, out);
     let held = hold(input, done.read);
     Turned {
         kept: held,

@@ -14,7 +14,7 @@ use Rattle.io.specs.Counts.{clamped}
 use Rattle.lines.specs.Lines.{outputOf, inputRoom}
 use Rattle.lines.specs.Turns.{mostKept, turnOf, session, inputOf, turnAt, seen, Took}
 use Rattle.lines.specs.declared.Turned.{Turned}
-use Rattle.lines.proofs.Pieces.{back, wrote-begins}
+use Rattle.replies.proofs.Pieces.{back, wrote-begins}
 use Rattle.lines.proofs.Turns.{on-buffer, few-kept}
 use Rattle.lines.proofs.Sessions.{in-pieces, one-more}
 use Rattle.tagline.specs.declared.After.{After}

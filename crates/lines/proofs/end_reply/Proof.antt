@@ -6,9 +6,10 @@ use native.Mathlib.Omega.{arith}
 use lib.ListN.{length}
 use borrow.Author.Needs.{needs}
 use borrow.Author.Tests.{le-leb}
-use Rattle.lines.specs.Lines.{printed, replyRoom}
+use Rattle.replies.specs.Writing.{replyRoom}
+use Rattle.lines.specs.Lines.{printed}
 use Rattle.lines.specs.Turns.{endReply}
-use Rattle.lines.proofs.Pieces.{wrote-nothing}
+use Rattle.replies.proofs.Pieces.{wrote-nothing}
 use Rattle.lines.proofs.end_reply.Statement.{statement}
 use Rattle.lines.proofs.end_reply.Tie as tie
 

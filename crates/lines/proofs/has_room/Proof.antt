@@ -6,7 +6,8 @@ use native.Mathlib.Omega.{arith}
 use lib.Dec.{leb}
 use borrow.Author.Tests.{le-leb, lt-leb}
 use Rattle.numeral.proofs.Arithmetic.{lt-or-ge}
-use Rattle.lines.specs.Lines.{replyRoom, growth}
+use Rattle.replies.specs.Writing.{replyRoom}
+use Rattle.lines.specs.Lines.{growth}
 use Rattle.lines.proofs.has_room.Statement.{statement}
 use Rattle.lines.proofs.has_room.Tie as tie
 

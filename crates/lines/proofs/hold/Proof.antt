@@ -7,7 +7,7 @@ use borrow.Author.Needs.{needs}
 use Rattle.numeral.specs.Numeral.{splice}
 use Rattle.numeral.proofs.Splices.{splice-nil}
 use Rattle.lines.specs.Turns.{mostKept}
-use Rattle.lines.proofs.Pieces.{moved, moved-all}
+use Rattle.lines.proofs.Holds.{moved, moved-all}
 use Rattle.lines.proofs.hold.Statement.{statement}
 use Rattle.lines.proofs.hold.Tie as tie
 

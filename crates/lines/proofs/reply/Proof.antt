@@ -5,10 +5,11 @@ use lib.ListN.{length, set, length-append}
 use borrow.Author.Needs.{needs}
 use borrow.Author.Tests.{le-leb, lt-leb}
 use Rattle.numeral.proofs.Splices.{splice-snoc}
-use Rattle.lines.specs.Replies.{replyOf}
-use Rattle.lines.specs.Lines.{feed, replyRoom}
-use Rattle.lines.proofs.Sizes.{reply-long}
-use Rattle.lines.proofs.Pieces.{wrote-nothing}
+use Rattle.replies.specs.Replies.{replyOf}
+use Rattle.replies.specs.Writing.{replyRoom}
+use Rattle.lines.specs.Lines.{feed}
+use Rattle.replies.proofs.Sizes.{reply-long}
+use Rattle.replies.proofs.Pieces.{wrote-nothing}
 use Rattle.lines.proofs.reply.Statement.{statement}
 use Rattle.lines.proofs.reply.Tie as tie
 

@@ -29,11 +29,11 @@ ended c =
     let r = c .before .before .end-reply in
     at-end (s .args .kept) (s .args .input .now) (s .args .out .now) (room (e .before)) (r .result) (r .last .1 .0) (e .if2 .taken) (r .ensures)
 
-replies-requires : tie.Need-replies-requires
-replies-requires c κs = room (c .before .before .before)
+answer-requires : tie.Need-answer-ended-requires
+answer-requires c κs = room (c .before .before .before)
 
 hold-requires : tie.Need-hold-requires
-hold-requires c κs = omega (arith, c .before .before .before .replies .ensures .0, whole-within (c .before .before .before .before .before .before .before .before .before .before .before .args .input .now))
+hold-requires c κs = omega (arith, c .before .before .before .answer-ended .ensures .0, whole-within (c .before .before .before .before .before .before .before .before .before .before .before .args .input .now))
 
 more : tie.Need-returns-3
 more c =
@@ -41,8 +41,8 @@ more c =
     let r = h .before .before .before .before in
     let e = r .before .before .before in
     let s = e .before .before .before .before .before in
-    goes-on (s .args .kept) (s .args .input .now) (s .args .out .now) (room (e .before)) (r .replies .result .written) (r .replies .last .1 .0) (e .if2 .left) (r .replies .ensures .1)
-    (h .hold .result) (h .hold .last .0) (rw (r .replies .ensures .0) at (h .hold .ensures))
+    goes-on (s .args .kept) (s .args .input .now) (s .args .out .now) (room (e .before)) (r .answer-ended .result .written) (r .answer-ended .last .1 .0) (e .if2 .left) (r .answer-ended .ensures .1)
+    (h .hold .result) (h .hold .last .0) (rw (r .answer-ended .ensures .0) at (h .hold .ensures))
 
 pub turn-spec : {M : Type 1} → statement M
 turn-spec =
@@ -54,7 +54,7 @@ turn-spec =
     (λ c. search needs)
     (λ c. search needs)
     ended
-    replies-requires
+    answer-requires
     hold-requires
     (λ c. search needs)
     (λ c. search needs)

@@ -5,7 +5,7 @@ use lib.Seq.{length-take-le}
 use borrow.Author.Needs.{needs}
 use mir.Syntax.{w64}
 use mir.Val.{toZ, ofZ}
-use Rattle.lines.proofs.Pieces.{wrote-within}
+use Rattle.replies.proofs.Pieces.{wrote-within}
 use Rattle.tagline.proofs.Runs.{for-some, for-none}
 use Rattle.tagline.proofs.one_turn.Statement.{statement}
 use Rattle.tagline.proofs.one_turn.Tie as tie

@@ -1,0 +1,7 @@
+-- The laws of replies.
+pub mod Hexes
+pub mod Pieces
+pub mod Answered
+pub mod Refusals
+pub mod Screens
+pub mod Sizes

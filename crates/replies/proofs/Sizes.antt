@@ -1,0 +1,160 @@
+-- How long a reply is: at most 150 bytes, and with its line feed at most four times the line with its own.
+use Prim.Native.Nat.{ℕ, _+_, _-_, _*_, _≤_, _<_}
+use mathlib.Core.Path.{_≡_, refl, ap}
+use mathlib.Core.Logic.{_⊎_, inl, inr}
+use mathlib.Core.List.{List, []}
+use mathlib.Core.Option.{none, some}
+use mathlib.Core.Bool.{Bool, true, false, cond}
+use native.Mathlib.Omega.{arith}
+use lib.Dec.{leb, eqb, lit<, lit≤}
+use lib.ListN.{length, drop, length-append, length-take, length-drop}
+use Rattle.numeral.proofs.Shortest.{size-le, size-small}
+use Rattle.rules.specs.Answers.{Answer, refused, taken}
+use Rattle.rules.specs.Bytes.{bytes}
+use Rattle.rules.specs.Conditions.{First, textRules, bankRules, rawRules}
+use Rattle.rules.specs.declared.Scheme.{Scheme}
+use Rattle.rules.specs.declared.Scheme.the-variants.{Sgtin96, Sgtin198, Sscc96, Sgln96, Sgln195, Grai96, Grai170, Giai96, Gsrn96, Gsrnp96, Gdti96, Gdti174, Gid96}
+use Rattle.rules.specs.Schemes.{words}
+use Rattle.rules.specs.Grammar.{Tag, TagText, textOf, start, label}
+use Rattle.rules.specs.Coding.{at, bankOf, wordCount, within}
+use Rattle.rules.specs.TextNumbers.{after, tagOfText}
+use Rattle.rules.specs.BankNumbers.{tagOfBank}
+use Rattle.rules.specs.Raw.{afiText, rawText}
+use Rattle.rules.specs.Screen.{screen}
+use Rattle.rules.proofs.Answers.{Reads}
+use Rattle.rules.proofs.Banks.{Shown, bank-length}
+use Rattle.rules.proofs.BankReads.{bank-reads, at-lt}
+use Rattle.rules.proofs.TextReads.{tag-reads}
+use Rattle.rules.proofs.Lengths.{text-length, raw-length}
+use Rattle.digits.proofs.Texts.{length-hex}
+use Rattle.digits.specs.Starts.{begun}
+use Rattle.replies.specs.Hex.{isBank, bytesIn, bankIn}
+use Rattle.replies.specs.Replies.{mostCharacters, replyN, shown, ofText, ofBank, bankReply, replyOf, replyX}
+use Rattle.replies.proofs.Hexes.{read-count}
+use Rattle.replies.proofs.Pieces.{decimal-long}
+use Rattle.replies.proofs.Refusals.{first-between, with-raw, without-raw, two-digits, later}
+
+-- r is short enough for a line of n bytes
+abbrev Short : ℕ → List ℕ → Type 0
+Short n r = (length r ≤ 150) × (length r < 4 * (n + 1))
+
+-- what is seen scheme by scheme
+sizes : (s : Scheme) → (6 ≤ words s) × (words s ≤ 13) × (2 ≤ length (label s))
+sizes Sgtin96 = omega arith
+sizes Sgtin198 = omega arith
+sizes Sscc96 = omega arith
+sizes Sgln96 = omega arith
+sizes Sgln195 = omega arith
+sizes Grai96 = omega arith
+sizes Grai170 = omega arith
+sizes Giai96 = omega arith
+sizes Gsrn96 = omega arith
+sizes Gsrnp96 = omega arith
+sizes Gdti96 = omega arith
+sizes Gdti174 = omega arith
+sizes Gid96 = omega arith
+
+number-short : (n m : ℕ) → n < 10 → Short m (replyN n)
+number-short n m h = let d = decimal-long n in let e = size-small 10 (lit< tt) n h in (omega arith, omega arith)
+
+-- To a text.
+text-long : (τ : Tag) → 14 ≤ length (textOf τ)
+unfolding textOf start
+text-long τ = rw (length-append (label (τ .scheme))) (omega (arith, sizes (τ .scheme)))
+
+text-number : (t : List ℕ) (n : ℕ) → First (textRules t) n → 0 < n → n ≤ 8
+unfolding textRules
+text-number t n f p = first-between 2 8 (textRules t) n (omega arith) p f .1
+
+text-short : (t : List ℕ) → Short (length t) (ofText (tagOfText t))
+text-short t = go (tagOfText t) (tag-reads t)
+  where
+    go : (a : Answer Tag) → Reads (textRules t) (TagText t) a → Short (length t) (ofText a)
+    go (taken τ) h =
+        let l = length-hex (bankOf τ) in
+        let b = bank-length τ in
+        let s = sizes (τ .scheme) in
+        let u = text-long τ in
+        let e = ap length (h .1 .text) in
+        (omega arith, omega arith)
+    go (refused n) h = number-short n (length t) (omega (arith, text-number t n (h .0) (h .1)))
+
+-- To a bank: its line has two digits a byte.
+afi-length : (t : Bool) (a : ℕ) → length (afiText t a) ≤ 4
+afi-length true a = lit≤ tt
+afi-length false a = lit≤ tt
+
+raw-short : (b : List ℕ) → length (rawText b) ≤ 21 + 2 * (length b - 2)
+unfolding rawText
+raw-short b =
+    let v : ℕ = 16 * wordCount b in
+    let d = decimal-long v in
+    let k = size-le 10 (lit< tt) v 3 (lit< tt) (omega (arith, at-lt b 0x10 5)) in
+    let a = afi-length (eqb (at b 0x17 1) 1) (at b 0x18 8) in
+    let w : length (drop 2 (within b)) ≤ length b - 2 = simp (length-drop, length-take) (omega arith) in
+    simp (length-append, length-hex) (omega arith)
+
+module _ (b : List ℕ) where
+  -- the words are there
+  there : ¬ ((length b < 2) ⊎ (length b < 2 + 2 * wordCount b)) → (2 ≤ length b) × (2 + 2 * wordCount b ≤ length b)
+  there x =
+      let u : ¬ (length b < 2) = λ h. x (inl h) in
+      let v : ¬ (length b < 2 + 2 * wordCount b) = λ h. x (inr h) in
+      (omega arith, omega arith)
+
+  refused-short : (n : ℕ) → 0 < n → First (bankRules b) n → Short (2 * length b) (shown n (screen [] (rawText b) n))
+  unfolding rawRules bankRules
+  refused-short n p (inl (_, e)) = rw (without-raw b n p (omega arith)) (number-short n (2 * length b) (omega arith))
+  refused-short n p (inr (x, inl (_, e))) =
+      let d = decimal-long n in
+      let k = size-le 10 (lit< tt) n 2 (lit< tt) (omega arith) in
+      let c = there x in
+      rw (without-raw b n p (omega arith)) (omega arith, omega arith)
+  refused-short n p (inr (x, inr (y, f))) =
+      let (l, u) = later b n p (inr (x, inr (y, f))) (x, (y, tt)) in
+      let c = there x in
+      let w : ¬ (wordCount b ≡ 0) = y in
+      let two = two-digits n l u in
+      let d = decimal-long n in
+      let r = raw-short b in
+      let s = raw-length b in
+      rw (with-raw b n l u) (simp length-append (omega arith), simp length-append (omega arith))
+
+  bank-short : Short (2 * length b) (ofBank b (tagOfBank b))
+  bank-short = go (tagOfBank b) (bank-reads b)
+    where
+      go : (a : Answer Tag) → Reads (bankRules b) (Shown b) a → Short (2 * length b) (ofBank b a)
+      go (taken τ) h =
+          let l = text-length (textOf τ) τ (record { fits = h .1 .fits; text = refl }) in
+          let s = sizes (τ .scheme) in
+          let c = h .1 .count in
+          let k = h .1 .long in
+          (omega arith, omega arith)
+      go (refused n) h = refused-short n (h .1) (h .0)
+
+-- To any line.
+hex-short : (l : List ℕ) → Short (length l) (bankReply (bankIn l))
+hex-short l = go (isBank l) refl
+  where
+    go : (t : Bool) → isBank l ≡ t → Short (length l) (bankReply (cond t (some (bytesIn l)) none))
+    go true e =
+        let c = read-count l in
+        let b = bank-short (bytesIn l) in
+        (b .0, omega (arith, b .1))
+    go false e = (lit≤ tt, omega arith)
+
+reply-short : (l : List ℕ) → Short (length l) (replyOf l)
+unfolding replyOf
+reply-short l = go (begun (after (bytes "urn:") l)) (leb (length l) mostCharacters)
+  where
+    go : (t u : Bool) → Short (length l) (cond t (cond u (ofText (tagOfText l)) replyX) (bankReply (bankIn l)))
+    go true true = text-short l
+    go true false = (lit≤ tt, omega arith)
+    go false u = hex-short l
+
+pub reply-long : (l : List ℕ) → length (replyOf l) ≤ 150
+reply-long l = reply-short l .0
+
+-- and with a line feed behind it, at most four times its line with one
+pub reply-grows : (l : List ℕ) → length (replyOf l) + 1 ≤ 4 * (length l + 1)
+reply-grows l = omega (arith, reply-short l .1)
