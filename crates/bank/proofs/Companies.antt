@@ -1,6 +1,6 @@
 -- What follows the company prefix, in the code's own terms: k is what is read up to the prefix, `at` the code bit behind it, and h the
 -- shape of what stands there.
-use Prim.Native.Nat.{ℕ, _+_, _-_, _*_, _^_, _≤_, _<_}
+use Prim.Native.Nat.{ℕ, _+_, _-_, _^_, _≤_, _<_}
 use mathlib.Core.Path.{_≡_, sym, ap, _∙_}
 use mathlib.Core.Logic.{_⊎_}
 use mathlib.Core.List.{List, _++_}

@@ -1,15 +1,15 @@
 -- The bank of a tag as it is written: the control word and the header, the bits of the parts behind them, and zeros to the end of the last word.
 use Prim.Native.Nat.{ℕ, zero, suc, _+_, _-_, _*_, _≤_, _<_}
 use mathlib.Core.Path.{_≡_, refl, sym, ap, _∙_}
-use mathlib.Core.List.{List, [], _∷_, _++_, append-assoc, append-nil}
+use mathlib.Core.List.{List, [], _∷_, _++_, append-assoc}
 use native.Mathlib.Omega.{arith}
-use native.Mathlib.Nat.{add-zero, pow-zero}
+use native.Mathlib.Nat.{add-zero}
 use native.Mathlib.Numerals.{add-one}
 use lib.Dec.{lit<}
-use lib.ListN.{length, drop, set, replicate, length-append, length-replicate, replicate-append-replicate}
+use lib.ListN.{length, drop, replicate, length-append, length-replicate, replicate-append-replicate}
 use lib.Pow.{pow-pos}
-use Rattle.numeral.specs.Numeral.{numeral, gather, splice, spread}
-use Rattle.numeral.proofs.Values.{length-numeral, numeral-nil}
+use Rattle.numeral.specs.Numeral.{numeral, gather}
+use Rattle.numeral.proofs.Values.{length-numeral}
 use Rattle.rules.specs.Schemes.{about, words}
 use Rattle.rules.specs.Grammar.{layout, Tag}
 use Rattle.rules.specs.Coding.{binary, coded, bitsOf, bankSize, bankOf}

@@ -1,5 +1,5 @@
 -- The bits of a record's fields, the limits that the fields keep, and the room that a stream has for them.
-use Prim.Native.Nat.{ℕ, _+_, _*_, _/_, _^_, _≤_, _<_}
+use Prim.Native.Nat.{ℕ, _+_, _/_, _^_, _≤_, _<_}
 use mathlib.Core.List.{List, _++_}
 use lib.ListN.{take, replicate}
 use Rattle.numeral.specs.Numeral.{Digits, spread}

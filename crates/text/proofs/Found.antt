@@ -19,12 +19,12 @@ use Rattle.rules.proofs.Tests.{both}
 use Rattle.rules.proofs.Runs.{run-is}
 use Rattle.rules.proofs.Decimals.{digits-is}
 use Rattle.digits.proofs.Texts.{length-text}
-use Rattle.text.specs.Parts.{formOf, foundOf, endOf}
-use Rattle.text.specs.declared.parts.Form.{Form}
-use Rattle.text.specs.declared.parts.Part.the-variants.{Wrong}
-use Rattle.text.specs.declared.parts.Part.the-variants.{Is as Found}
-use Rattle.text.proofs.Standing.{right, part-refused, part-taken}
-use Rattle.text.specs.declared.parts.End.the-variants.{Is, Refused}
+use Rattle.parts.specs.Parts.{formOf, foundOf, endOf}
+use Rattle.parts.specs.declared.parts.Form.{Form}
+use Rattle.parts.specs.declared.parts.Part.the-variants.{Wrong}
+use Rattle.parts.specs.declared.parts.Part.the-variants.{Is as Found}
+use Rattle.parts.proofs.Standing.{right, part-refused, part-taken}
+use Rattle.parts.specs.declared.parts.End.the-variants.{Is, Refused}
 
 -- A part is refused with the number asked for; what is taken does not depend on that number.
 record Right (f : Form) (u ds : List ℕ) : Type 0 where

@@ -16,12 +16,12 @@ use Rattle.rules.specs.TextNumbers.{charactersIn, partIn, lastIn, partsIn}
 use Rattle.alphabet.specs.declared.Spelled.{Spelled}
 use Rattle.alphabet.specs.Strings.{spelledOf}
 use Rattle.scheme.specs.Records.{lastNumber, lastCharacters, padded, refusal}
-use Rattle.text.specs.declared.parts.Form.{Form as CodeForm}
-use Rattle.text.specs.declared.parts.Form.the-variants.{Digits}
-use Rattle.text.specs.declared.parts.End.the-variants.{Is, Refused}
+use Rattle.parts.specs.declared.parts.Form.{Form as CodeForm}
+use Rattle.parts.specs.declared.parts.Form.the-variants.{Digits}
+use Rattle.parts.specs.declared.parts.End.the-variants.{Is, Refused}
 use Rattle.text.specs.declared.reading.Head.{Head}
-use Rattle.text.specs.Parts.{formOf}
-use Rattle.text.specs.Parts.{endOf}
+use Rattle.parts.specs.Parts.{formOf}
+use Rattle.parts.specs.Parts.{endOf}
 use Rattle.text.specs.Reading.{tagged, taggedWith, referred, withLast, referenceAlone, assetAlone}
 use Rattle.text.proofs.Found.{Standing, last-refused, last-is}
 

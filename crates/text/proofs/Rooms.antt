@@ -12,8 +12,8 @@ use Rattle.rules.specs.Schemes.{cell, rowOf, partition}
 use Rattle.rules.specs.Grammar.{label}
 use Rattle.rules.proofs.Rows.{row-picked}
 use Rattle.scheme.proofs.Widths.{few-digits}
-use Rattle.text.specs.Names.{restOf}
-use Rattle.text.proofs.Keys.{sound}
+use Rattle.parts.specs.Names.{restOf}
+use Rattle.parts.proofs.Keys.{sound}
 
 pub label-short : (s : Scheme) → length (label s) ≤ 10
 label-short s = rw (sound s .whole, length-append (restOf s)) (omega (arith, sound s .short))

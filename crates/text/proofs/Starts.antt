@@ -11,8 +11,8 @@ use Rattle.rules.specs.Schemes.{schemes}
 use Rattle.rules.specs.Grammar.{start, label, layout}
 use Rattle.rules.specs.TextNumbers.{after, Named, named, partsIn, tagOfText}
 use Rattle.scheme.specs.Records.{refusal, readingOf}
-use Rattle.text.specs.declared.names.Named.the-variants.{Is, Unlisted}
-use Rattle.text.specs.Names.{namedBy, namedAt}
+use Rattle.parts.specs.declared.names.Named.the-variants.{Is, Unlisted}
+use Rattle.parts.specs.Names.{namedBy, namedAt}
 use Rattle.text.specs.Reading.{readAs}
 use Rattle.rules.proofs.Answers.{Gives}
 use Rattle.rules.proofs.TextReads.{named-is}

@@ -1,15 +1,13 @@
 -- The text of a tag, by the values that its record holds; and that these are as small as the writers of its pieces ask.
 use Prim.Native.Nat.{ℕ, _/_, _≤_}
 use mathlib.Core.Path.{_≡_, refl, sym, ap, _∙_}
-use mathlib.Core.List.{List, _∷_, _++_, append-assoc}
+use mathlib.Core.List.{List, _++_, append-assoc}
 use native.Mathlib.Omega.{arith}
 use lib.Dec.{leb, leb→le, ltb→lt, eqb→eq}
 use lib.ListN.{length, take, replicate, length-append}
 use lib.Seq.{take-at, take-take, length-take-le}
 use Rattle.numeral.specs.Numeral.{value, shortest, numeral}
 use Rattle.numeral.proofs.Values.{numeral-value, numeral-of-value}
-use Rattle.rules.specs.Bytes.{dot, digitsText}
-use Rattle.rules.specs.Characters.{stringText}
 use Rattle.rules.specs.declared.Last.the-variants.{Integer, String}
 use Rattle.rules.specs.declared.Body.{Body}
 use Rattle.rules.specs.declared.Body.the-variants.{Then, Zeros, E}

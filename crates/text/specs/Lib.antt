@@ -1,5 +1,3 @@
 -- The words in which the contracts of a text's reader and writer are written.
-pub mod Names
-pub mod Parts
 pub mod Reading
 pub mod Writing

@@ -1,12 +1,12 @@
 // A text to the record of its tag, read left to right (document 01, "Numbers given, and when": 2 to 8).
-use super::names::Named;
-use super::names::name;
-use super::parts::End;
-use super::parts::Form;
-use super::parts::Part;
-use super::parts::digits_to_end;
-use super::parts::integer_to_end;
-use super::parts::part_at;
+use parts::End;
+use parts::Form;
+use parts::Named;
+use parts::Part;
+use parts::digits_to_end;
+use parts::integer_to_end;
+use parts::name;
+use parts::part_at;
 use rules::Body;
 use rules::Last;
 use rules::MOST_CHARACTERS;
@@ -28,7 +28,7 @@ ghost use Rattle.rules.specs.TextNumbers.{after, partsIn, tagOfText};
 ghost use Rattle.scheme.specs.Outlines.{Narrow};
 ghost use Rattle.scheme.specs.Records.{readingOf};
 ghost use Rattle.digits.specs.Starts.{begun};
-ghost use Rattle.text.specs.Parts.{formOf, Short};
+ghost use Rattle.parts.specs.Parts.{formOf, Short};
 ghost use Rattle.text.specs.Reading.{taggedWith, referred, withLast, referenceAlone, assetAlone, behindPrefix, readAs};
 
 // How many characters `urn:epc:tag:` has.

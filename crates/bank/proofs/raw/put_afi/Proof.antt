@@ -1,12 +1,11 @@
 -- The toggle says whether the AFI is written.
-use mathlib.Core.Path.{sym, ap, _∙_}
-use mathlib.Core.List.{[], _∷_, _++_}
+use mathlib.Core.Path.{sym, _∙_}
 use native.Mathlib.Omega.{arith}
 use native.Mathlib.Nat.{add-zero}
 use denote.Ref.{now}
 use borrow.Author.Needs.{needs}
 use Rattle.numeral.proofs.Splices.{splice-nil}
-use Rattle.rules.specs.Bytes.{bytes, hexText}
+use Rattle.rules.specs.Bytes.{bytes}
 use Rattle.rules.proofs.BankReads.{at-lt}
 use Rattle.bank.proofs.RawTexts.{no-afi, some-afi}
 use Rattle.bank.proofs.raw.put_afi.Statement.{statement}

@@ -1,6 +1,5 @@
 -- The filter, the partition value and the prefix are taken one behind the other; the tests are those of the rules 16 and 17.
-use Prim.Native.Nat.{_+_}
-use mathlib.Core.Path.{_≡_, _∙_}
+use mathlib.Core.Path.{_≡_}
 use native.Mathlib.Omega.{arith}
 use borrow.Author.Needs.{needs}
 use denote.Ref.{now}

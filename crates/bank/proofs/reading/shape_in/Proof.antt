@@ -1,5 +1,5 @@
 -- In each arm the shape is computed, with the cell or the bits that the row has.
-use mathlib.Core.Path.{_≡_, refl, sym, ap, _∙_}
+use mathlib.Core.Path.{_≡_, sym, ap, _∙_}
 use borrow.Author.Needs.{needs}
 use Rattle.rules.specs.declared.Last.{Last}
 use Rattle.rules.specs.declared.Table.{Table}

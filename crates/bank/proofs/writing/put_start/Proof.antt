@@ -1,7 +1,6 @@
 -- Sixteen bits and eight more are the control word and the header.
 use Prim.Native.Nat.{_*_}
-use mathlib.Core.Path.{_≡_, ap, _∙_}
-use mathlib.Core.List.{_++_, append-assoc}
+use mathlib.Core.List.{append-assoc}
 use native.Mathlib.Omega.{arith}
 use lib.Dec.{lit≤}
 use denote.Ref.{now}

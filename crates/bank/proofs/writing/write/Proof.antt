@@ -1,6 +1,6 @@
 -- The start, the parts and the fill are one stream of bits, which ends with the last word.
 use Prim.Native.Nat.{_+_, _-_, _*_, _≤_, _<_}
-use mathlib.Core.Path.{_≡_, _∙_}
+use mathlib.Core.Path.{_≡_}
 use native.Mathlib.Omega.{arith}
 use borrow.Author.Needs.{needs}
 use Rattle.bank.proofs.PackedBanks.{few-words, keeps, start-leaves, stands, takes-fill, ends}

@@ -1,5 +1,5 @@
 -- Each early return is the refusal of its rule, by the tests that led there.
-use mathlib.Core.Path.{_≡_, sym, ap}
+use mathlib.Core.Path.{sym, ap}
 use borrow.Author.Needs.{needs}
 use denote.Ref.{now}
 use Rattle.fields.specs.Controls.{controlOf}

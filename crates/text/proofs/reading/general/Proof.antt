@@ -9,7 +9,7 @@ use Rattle.rules.specs.declared.Last.the-variants.{Integer as LastInteger}
 use Rattle.rules.specs.declared.Parts.the-variants.{Integers}
 use Rattle.scheme.specs.Outlines.{Narrow}
 use Rattle.scheme.proofs.Widths.{parts-narrow}
-use Rattle.text.specs.declared.parts.Form.the-variants.{Integer}
+use Rattle.parts.specs.declared.parts.Form.the-variants.{Integer}
 use Rattle.text.specs.Reading.{withLast, referred}
 use Rattle.text.proofs.Found.{Standing, wrong, stands}
 use Rattle.text.proofs.Whole.{head, no-integer, with-integer}

@@ -8,7 +8,7 @@ use Rattle.rules.specs.Grammar.{bodyLayout}
 use Rattle.rules.specs.TextNumbers.{partsIn}
 use Rattle.rules.proofs.Tests.{both}
 use Rattle.scheme.proofs.Widths.{parts-narrow}
-use Rattle.text.specs.declared.parts.Form.the-variants.{Prefix, Integer}
+use Rattle.parts.specs.declared.parts.Form.the-variants.{Prefix, Integer}
 use Rattle.text.specs.Reading.{behindPrefix}
 use Rattle.text.proofs.Found.{Standing, wrong, stands}
 use Rattle.text.proofs.Whole.{head, no-filter, no-prefix, with-prefix}

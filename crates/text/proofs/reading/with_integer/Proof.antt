@@ -3,7 +3,7 @@ use mathlib.Core.Path.{sym, _∙_}
 use lib.ListN.{drop}
 use borrow.Author.Needs.{needs}
 use Rattle.rules.specs.declared.Last.the-variants.{Integer}
-use Rattle.text.specs.Parts.{formOf}
+use Rattle.parts.specs.Parts.{formOf}
 use Rattle.text.proofs.Found.{Standing, wrong, stands}
 use Rattle.text.proofs.Lasts.{no-reference, integer-refused, integer-taken}
 use Rattle.text.proofs.reading.with_integer.Statement.{statement}

@@ -4,7 +4,7 @@ use lib.ListN.{drop}
 use borrow.Author.Needs.{needs}
 use Rattle.rules.specs.declared.Last.the-variants.{String}
 use Rattle.rules.specs.Schemes.{digits}
-use Rattle.text.specs.declared.parts.Form.the-variants.{Digits}
+use Rattle.parts.specs.declared.parts.Form.the-variants.{Digits}
 use Rattle.text.proofs.Found.{Standing, wrong, stands}
 use Rattle.text.proofs.Lasts.{no-reference, behind-none, behind-long, behind-taken}
 use Rattle.text.proofs.reading.with_string.Statement.{statement}

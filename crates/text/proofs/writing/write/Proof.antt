@@ -1,6 +1,5 @@
 -- Each arm knows the parts of its scheme: so what its pieces ask holds, and joined they are the tag's text.
 use mathlib.Core.Path.{_≡_, sym, ap, _∙_}
-use native.Mathlib.Omega.{arith}
 use borrow.Author.Needs.{needs}
 use Rattle.rules.specs.declared.Parts.{Parts}
 use Rattle.rules.specs.Schemes.{about}

@@ -1,0 +1,3 @@
+-- The terms in which the contracts of this crate speak, beside the written rules.
+pub mod Names
+pub mod Parts

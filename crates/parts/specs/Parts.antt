@@ -1,0 +1,64 @@
+-- A numeric part as the code holds it: its form, its value and its digits.
+use Prim.Native.Nat.{ℕ, _+_, _^_, _≤_}
+use mathlib.Core.Bool.{Bool, true, false, _&&_, _||_, not, cond}
+use mathlib.Core.List.{List}
+use lib.Dec.{leb, ltb, eqb}
+use lib.ListN.{length}
+use Rattle.numeral.specs.Numeral.{value}
+use Rattle.rules.specs.Answers.{Answer, refused, taken}
+use Rattle.rules.specs.Schemes.{company, digits, integer, string}
+use Rattle.rules.specs.Schemes.{Form as RulesForm}
+use Rattle.parts.specs.declared.parts.Form.{Form}
+use Rattle.parts.specs.declared.parts.Form.the-variants.{Prefix, Digits, Integer}
+use Rattle.parts.specs.declared.parts.Part.{Part}
+use Rattle.parts.specs.declared.parts.Part.the-variants.{Wrong}
+use Rattle.parts.specs.declared.parts.Part.the-variants.{Is as Found}
+use Rattle.parts.specs.declared.parts.End.{End}
+use Rattle.parts.specs.declared.parts.End.the-variants.{Is, Refused}
+
+-- the rules' form; the bits of a part with a fixed number of digits play no part in its text
+abbrev pub formOf : Form → RulesForm
+formOf Prefix = company
+formOf (Digits n) = digits 0 n
+formOf (Integer b) = integer b
+
+-- nineteen digits are enough to tell whether a part is in the form
+abbrev pub Short : Form → Type 0
+Short Prefix = Unit
+Short (Digits n) = n ≤ 19
+Short (Integer b) = b ≤ 63
+
+-- `0`, or no leading zero, by the number of digits and whether the first is 0
+abbrev pub plainly : ℕ → Bool → Bool
+plainly n zero = eqb n 1 || (ltb 1 n && not zero)
+
+-- a part's test by numbers alone: how many digits, whether the first is 0, the value
+abbrev pub fitting : RulesForm → ℕ → Bool → ℕ → Bool
+fitting company n zero v = leb 6 n && leb n 12
+fitting (digits b k) n zero v = eqb n k
+fitting (integer b) n zero v = plainly n zero && ltb v (2 ^ b)
+fitting (string b) n zero v = false
+
+-- what a part that stands at an index is in code
+abbrev pub foundOf : ℕ → Answer (List ℕ) → Part
+foundOf at (refused n) = Wrong
+foundOf at (taken p) = Found (value 10 p) (length p) (at + length p + 1)
+
+-- what a part that ends the text is in code
+abbrev pub endOf : Answer (List ℕ) → End
+endOf (refused n) = Refused n
+endOf (taken p) = Is (value 10 p)
+
+-- an integer of more digits than are read, by the rest of it and its first digit
+abbrev pub longerOf : Bool → Bool → End
+longerOf true true = Refused 7
+longerOf true false = Refused 8
+longerOf false zero = Refused 7
+
+-- an integer by its number of digits, its first digit and its value: its form, then its size
+abbrev pub sizedOf : Bool → ℕ → End
+sizedOf true v = Is v
+sizedOf false v = Refused 8
+
+abbrev pub shorterOf : ℕ → ℕ → Bool → ℕ → End
+shorterOf b n zero v = cond (plainly n zero) (sizedOf (ltb v (2 ^ b)) v) (Refused 7)

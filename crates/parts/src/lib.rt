@@ -1,0 +1,12 @@
+// What a text is made of, each read at its place: the name of a scheme, and the parts by their form.
+mod names;
+mod parts;
+
+pub use names::Named;
+pub use names::name;
+pub use parts::End;
+pub use parts::Form;
+pub use parts::Part;
+pub use parts::digits_to_end;
+pub use parts::integer_to_end;
+pub use parts::part_at;

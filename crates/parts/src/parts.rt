@@ -1,0 +1,153 @@
+// The numeric parts of a text: up to the next dot, or to the end (document 01, "Numbers given, and when": 4 to 8).
+use digits::all_digits;
+use digits::run_at;
+use scheme::refusal;
+ghost use mathlib.Core.Path.{_≡_};
+ghost use Prim.Native.Nat.{_≤_};
+ghost use lib.ListN.{length, drop};
+ghost use Rattle.rules.specs.Bytes.{all};
+ghost use Rattle.rules.specs.Schemes.{digits, integer};
+ghost use Rattle.rules.specs.TextNumbers.{isDigit, partIn, lastIn};
+ghost use Rattle.parts.specs.Parts.{formOf, Short, plainly, fitting, foundOf, endOf, longerOf, shorterOf};
+
+// How a part is written: as a company prefix, with exactly so many digits, or as an integer of so many bits.
+pub enum Form {
+    Prefix,
+    Digits(usize),
+    Integer(usize),
+}
+
+// A part that stands before a dot: its value, how many digits it has, and where the text goes on behind the dot.
+pub enum Part {
+    Is(u64, usize, usize),
+    Wrong,
+}
+
+// Whether n digits are an integer as it is written: `0`, or no leading zero. `zero` says whether the first digit is 0.
+fn is_plain(n: usize, zero: bool) -> bool
+    ensures { λ r. ⌜ r ≡ plainly n zero ⌝ }
+{
+    if n == 1 {
+        return true;
+    }
+    if zero {
+        return false;
+    }
+    1 < n
+}
+
+// Whether n digits are such an integer, with a value below 2 to the power of its bits.
+fn is_integer(n: usize, zero: bool, value: u64, bits: usize) -> bool
+    requires { ⌜ bits ≤ 63 ⌝ }
+    ensures { λ r. ⌜ r ≡ fitting (integer bits) n zero value ⌝ }
+{
+    if is_plain(n, zero) {
+        return value >> bits == 0;
+    }
+    false
+}
+
+// Whether n digits are a part of this form: the right number of digits, no leading zero, not too large.
+fn fits(form: Form, n: usize, zero: bool, value: u64) -> bool
+    requires { ⌜ Short form ⌝ }
+    ensures { λ r. ⌜ r ≡ fitting (formOf form) n zero value ⌝ }
+{
+    match form {
+        Form::Prefix => {
+            if n < 6 {
+                return false;
+            }
+            n <= 12
+        }
+        Form::Digits(k) => n == k,
+        Form::Integer(bits) => is_integer(n, zero, value, bits),
+    }
+}
+
+// The part from index `at` up to the next dot.
+pub fn part_at(text: &[u8], at: usize, form: Form) -> Part
+    requires { ⌜ (at ≤ length (now text)) × Short form ⌝ }
+    ensures { λ r. ⌜ r ≡ foundOf at (partIn 0 (formOf form) (drop at (now (text .entry)))) ⌝ }
+{
+    let run = run_at(text, at);
+    let end = run.end;
+    if text.len() <= end {
+        return Part::Wrong;
+    }
+    if text[end] != b'.' {
+        return Part::Wrong;
+    }
+    let n = end - at;
+    if fits(form, n, text[at] == b'0', run.value) {
+        return Part::Is(run.value, n, end + 1);
+    }
+    Part::Wrong
+}
+
+// A part that ends the text: its value, or the number of its refusal.
+pub enum End {
+    Is(u64),
+    Refused(u8),
+}
+
+// The rest of the text from index `at` on, as exactly n digits: table B's reference.
+pub fn digits_to_end(text: &[u8], at: usize, n: usize) -> End
+    requires { ⌜ (at ≤ length (now text)) × (n ≤ 19) ⌝ }
+    ensures { λ r. ⌜ r ≡ endOf (lastIn 6 (digits 0 n) (drop at (now (text .entry)))) ⌝ }
+{
+    let run = run_at(text, at);
+    let end = run.end;
+    if end < text.len() {
+        return End::Refused(refusal::REFERENCE);
+    }
+    if end - at != n {
+        return End::Refused(refusal::REFERENCE);
+    }
+    End::Is(run.value)
+}
+
+// An integer of more than nineteen digits. The bytes from index `at` on are still to be read; `zero` says whether its first digit is 0. It
+// is too large, unless its form is wrong.
+fn longer(text: &[u8], at: usize, zero: bool) -> End
+    requires { ⌜ at ≤ length (now text) ⌝ }
+    ensures { λ r. ⌜ r ≡ longerOf (all isDigit (drop at (now (text .entry)))) zero ⌝ }
+{
+    if !all_digits(text, at) {
+        return End::Refused(refusal::LAST_PART_FORM);
+    }
+    if zero {
+        return End::Refused(refusal::LAST_PART_FORM);
+    }
+    End::Refused(refusal::LAST_PART_SIZE)
+}
+
+// An integer of n digits, at most nineteen. `zero` says whether its first digit is 0.
+fn shorter(n: usize, zero: bool, value: u64, bits: usize) -> End
+    requires { ⌜ bits ≤ 63 ⌝ }
+    ensures { λ r. ⌜ r ≡ shorterOf bits n zero value ⌝ }
+{
+    if !is_plain(n, zero) {
+        return End::Refused(refusal::LAST_PART_FORM);
+    }
+    if value >> bits == 0 {
+        return End::Is(value);
+    }
+    End::Refused(refusal::LAST_PART_SIZE)
+}
+
+// The rest of the text from index `at` on, as an integer. Its whole form is judged before its size.
+pub fn integer_to_end(text: &[u8], at: usize, bits: usize) -> End
+    requires { ⌜ (at ≤ length (now text)) × (bits ≤ 63) ⌝ }
+    ensures { λ r. ⌜ r ≡ endOf (lastIn 7 (integer bits) (drop at (now (text .entry)))) ⌝ }
+{
+    let run = run_at(text, at);
+    let end = run.end;
+    if end == at {
+        return End::Refused(refusal::LAST_PART_FORM);
+    }
+    let zero = text[at] == b'0';
+    if end < text.len() {
+        return longer(text, end, zero);
+    }
+    shorter(end - at, zero, run.value, bits)
+}
