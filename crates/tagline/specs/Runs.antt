@@ -4,8 +4,8 @@ use Prim.Native.Nat.{ℕ, suc, _-_, _^_}
 use mathlib.Core.Path.{_≡_}
 use mathlib.Core.Logic.{_⊎_}
 use mathlib.Core.List.{List, [], _∷_, _++_}
-use mathlib.Core.Bool.{true, false}
-use lib.IntN.{ℤ}
+use mathlib.Core.Bool.{Bool, true, false}
+use lib.IntN.{ℤ, pos, negsuc}
 use lib.ListN.{length, take, drop}
 use Rattle.io.specs.Counts.{clamped}
 use Rattle.lines.specs.Turns.{Turn, turnOf, session}
@@ -15,6 +15,11 @@ use Rattle.tagline.specs.declared.Stopped.{Stopped}
 -- what a read gave that answered `got`, and put its bytes behind the first n of the buffer
 abbrev pub given : ℤ → ℕ → List ℕ → List ℕ
 given got n buffer = let behind = drop n buffer in take (clamped got (length behind)) behind
+
+-- the answer of a read that failed
+abbrev pub negative : ℤ → Bool
+negative (pos k) = false
+negative (negsuc k) = true
 
 -- l begins with w
 abbrev pub Begins : List ℕ → List ℕ → Type 0

@@ -8,7 +8,7 @@ ghost use Prim.Native.Nat.{_≤_, _<_};
 ghost use lib.ListN.{length, take};
 ghost use Rattle.lines.specs.Lines.{inputRoom};
 ghost use Rattle.lines.specs.Turns.{mostKept, turnOf, Took};
-ghost use Rattle.tagline.specs.Runs.{given, OneTurn, Ran};
+ghost use Rattle.tagline.specs.Runs.{given, negative, OneTurn, Ran};
 
 // The size of the input's buffer (`io::large_buffer`), which holds what is kept and what a read gives.
 const INPUT: usize = 65536;
@@ -29,6 +29,13 @@ fn turn_for(got: isize, input: &mut [u8], kept: usize, out: &mut [u8]) -> Turned
     lines::turn(&mut input[..end], kept, out)
 }
 
+// Whether a read that answered `got` has failed.
+fn failed(got: isize) -> bool
+    ensures { λ r. ⌜ r ≡ negative got ⌝ }
+{
+    got < 0
+}
+
 // After a turn: how many bytes are kept, whether the input has ended, whether the read was good, and whether all replies were written.
 struct After {
     kept: usize,
@@ -44,7 +51,7 @@ fn one_turn(input: &mut [u8], kept: usize, out: &mut [u8]) -> After
     ensures { λ r. ⌜ OneTurn (take kept (now (input .entry))) r (now (input .exit)) (now (out .exit)) ⌝ }
 {
     let got = libc::read(STDIN_FILENO, &mut input[kept..]);
-    if got < 0 {
+    if failed(got) {
         return After {
             kept,
             ended: false,
