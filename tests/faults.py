@@ -11,6 +11,8 @@ NO_STRING = (
     *("", "a b", " ", "#", "$", "@", "[", "\\", "^", "`", "{", "~", "\x7F", "\x80", "\0", "a\r", '"', "&", "/"),
     *("<", ">", "?", "%", "%2", "%%", "%25%", "a%", "a%2", "%2f", "%41", "%2E", "%2G", "%G2", "%00", "%A5", "%7E"),
 )
+# The fields that are at fault for these numbers of a bank.
+AT_FAULT = {15: ("zeros", "fill"), 16: ("partition",), 17: ("prefix",), 18: ("reference",), 19: ("string",)}
 BEYOND = ("9" * 19, "9" * 20, str(2**63), str(2**64), str(2**64 + 1), str(2**128), str(2**128 + 1), "1" + "0" * 40)
 
 
@@ -18,6 +20,7 @@ def texts(tag):
     """Numbers 2 to 8, each with the texts that are refused with it."""
     yield 2, bad_starts(tag)
     yield 3, bad_names(tag)
+    first = 4 if tag.has("filter") else 5  # the number of a text whose first part is wrong
     for place, at in enumerate(tag.written()):
         field = tag.fields[at]
         last = at == tag.written()[-1]
@@ -33,7 +36,7 @@ def texts(tag):
             yield 7, replaced(tag, place, (*NO_INTEGER, "1.", "1.2", "0" + "9" * 30, "9" * 30 + "x"))
             yield 8, replaced(tag, place, too_large(field))
         else:
-            yield 5 + place, [*replaced(tag, place, NO_INTEGER + too_large(field)), cut(tag, place)]
+            yield first + place, [*replaced(tag, place, NO_INTEGER + too_large(field)), cut(tag, place)]
 
 
 def bad_starts(tag):
@@ -79,9 +82,10 @@ def bad_strings(tag, place, most):
 
 
 def too_large(field):
-    """Integers of more than a field's bits."""
-    numerals = (str(2**field.bits), str(2**field.bits + 1), str(10 ** len(str(2**field.bits))), *BEYOND)
-    return tuple(numeral for numeral in numerals if int(numeral) >= limit(field))
+    """Integers that are not below a field's limit."""
+    values = [value + more for value in (limit(field), 2**field.bits) for more in (0, 1)]
+    numerals = (*map(str, values), str(10 ** len(str(2**field.bits))), *BEYOND)
+    return tuple(dict.fromkeys(numeral for numeral in numerals if int(numeral) >= limit(field)))
 
 
 def banks(tag):
@@ -137,9 +141,7 @@ def text_pairs(tag):
 def bank_pairs(tag):
     """Banks with two faults, or with all from one on, and the first one's number."""
     numbers = [11, 12, 13, 14, 15, 16, 17, 18, 19]
-    absent = {16: "partition", 17: "prefix", 18: "reference", 19: "string"}
-    numbers = [number for number in numbers if number not in absent or tag.has(absent[number])]
-    numbers = [number for number in numbers if number != 15 or zero_bits(tag)]
+    numbers = [number for number in numbers if number not in AT_FAULT or tag.has(*AT_FAULT[number])]
     for chosen in combinations(numbers, 2):
         yield chosen[0], faulty_bank(tag, chosen)
     for start in range(len(numbers)):
@@ -149,12 +151,9 @@ def bank_pairs(tag):
 def faulty_bank(tag, numbers):
     """The tag's bank with the faults of these numbers."""
     control = tag.scheme.words << 11
-    ones = {16: "partition", 17: "prefix", 18: "reference", 15: "zeros" if tag.has("zeros") else "fill"}
-    for number in numbers:
-        if number in ones:
-            place = tag.place(ones[number])
-            tag = tag.changed(place, 2 ** tag.fields[place].bits - 1)
-    tag = tag.changed(tag.place("string"), 1) if 19 in numbers else tag
+    for number in set(numbers) & set(AT_FAULT):
+        place = tag.place(*AT_FAULT[number])
+        tag = tag.changed(place, 1 if number == 19 else 2 ** tag.fields[place].bits - 1)
     tag = tag.changed(tag.place("header"), 0x38) if 13 in numbers else tag
     control += (0x100 if 11 in numbers else 0) + (0x401 if 12 in numbers else 0)
     control += 0x800 if 14 in numbers else 0

@@ -8,6 +8,7 @@ import copy
 import pathlib
 import re
 from collections import namedtuple
+from itertools import takewhile
 
 ROOT = pathlib.Path(__file__).resolve().parent.parent
 TAG_START = "urn:epc:tag:"
@@ -25,12 +26,13 @@ Field = namedtuple("Field", "kind bits digits", defaults=[None])
 def document_rows(heading):
     """The cells of the rows of document 01's table that has this heading."""
     lines = (ROOT / "docs" / "01-scope.md").read_text(encoding="utf-8").splitlines()
-    rows = []
-    for line in lines[lines.index(heading) + 2 :]:
-        if not line.startswith("|"):
-            break
-        rows.append([cell.strip() for cell in line.strip("|").split("|")])
-    return rows
+    return table_rows(lines[lines.index(heading) + 2 :])
+
+
+def table_rows(lines):
+    """The cells of the rows that lines begin with."""
+    rows = takewhile(lambda line: line.startswith("|"), lines)
+    return [[cell.strip() for cell in row.strip("|").split("|")] for row in rows]
 
 
 def read_schemes():
@@ -39,9 +41,18 @@ def read_schemes():
 
 
 def read_partitions():
+    """For each partition value the field of the prefix, and that of the reference by the table's name."""
     rows = document_rows("| P | Prefix bits/digits | A bits/digits | B | C | D | E bits |")
-    cells = [[tuple(int(n) for n in cell.split("/")) for cell in row[1:]] for row in rows]
-    return [dict(zip(("prefix", "A", "B", "C", "D", "E"), row)) for row in cells]
+    partitions = []
+    for _, prefix, *padded, integer in rows:
+        row = {"prefix": Field("prefix", *numbers(prefix)), "E": Field("integer", *numbers(integer))}
+        row |= {name: Field("reference", *numbers(cell)) for name, cell in zip("ABCD", padded, strict=True)}
+        partitions.append(row)
+    return partitions
+
+
+def numbers(cell):
+    return [int(number) for number in cell.split("/")]
 
 
 SCHEMES = read_schemes()
@@ -63,10 +74,8 @@ def layout(scheme, partition):
     for part in scheme.parts.split(", "):
         if part == "F":
             fields.append(Field("filter", 3))
-        elif part == "table E":
-            fields += [Field("partition", 3), Field("prefix", *row["prefix"]), Field("integer", *row["E"])]
         elif part.startswith("table"):
-            fields += [Field("partition", 3), Field("prefix", *row["prefix"]), Field("reference", *row[part[-1]])]
+            fields += [Field("partition", 3), row["prefix"], row[part.split()[1]]]
         elif part.endswith("zero bits"):
             fields.append(Field("zeros", int(part.split()[0])))
         elif part.startswith(("integer ", "string ")):
@@ -117,12 +126,12 @@ class Tag:
         kinds = ("filter", "prefix", "reference", "integer", "string")
         return [place for place, field in enumerate(self.fields) if field.kind in kinds]
 
-    def place(self, kind):
-        """The place of the last field of a kind."""
-        return max(place for place, field in enumerate(self.fields) if field.kind == kind)
+    def place(self, *kinds):
+        """The place of the last field of these kinds that has bits."""
+        return max(place for place, field in enumerate(self.fields) if field.kind in kinds and field.bits)
 
-    def has(self, kind):
-        return any(field.kind == kind and field.bits for field in self.fields)
+    def has(self, *kinds):
+        return any(field.kind in kinds and field.bits for field in self.fields)
 
     def changed(self, place, value):
         """The tag with another value in one field, which the field's bits hold."""
