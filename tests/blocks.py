@@ -1,18 +1,22 @@
 """The blocks of lines that the program is run on.
 
-A block gives pairs: a line, and the answer that document 01, docs/vectors.tsv or the making of the line
-states; None where nothing states one. Characters stand for bytes (latin-1).
+A block gives pairs: a line, and the answer that document 01, request C-11 of document 02, docs/vectors.tsv
+or the making of the line states; None where nothing states one. Characters stand for bytes (latin-1).
 """
 
 import faults
 from seeded import Random, mutated
 from tags import CHARACTERS, ESCAPED, ROOT, SCHEMES, TAG_START, Tag
-from tags import largest, middle, partitions, refused, smallest, string_text, string_value, text
+from tags import largest, middle, partitions, refused, samples, smallest
+from tags import numeric_value, string_text, string_value, text
 
 ROW_1 = "urn:epc:tag:sgtin-96:3.0614141.812345.6789"
 ROW_1_CODE = "3074257BF7194E4000001A85"
 ROW_6 = "urn:epc:tag:sgtin-198:0.0614141.812345.a.b"
 ROW_6_CODE = "3614257BF7194E70AEC4" + 16 * "00"
+GDTI_113 = "urn:epc:tag:gdti-113:3.0614141.12345.0"
+SGCN = "urn:epc:tag:sgcn-96:3.4012345.67890.04711"
+CPI = "urn:epc:tag:cpi-96:3.0614141.98765"
 
 
 def both(tag_text, bank):
@@ -96,8 +100,8 @@ def parts():
     """Every scheme at every partition value: each part at its smallest, middle and largest, both ways."""
     for tag in tags():
         for place in tag.written():
-            for pick in (smallest, middle, largest):
-                changed = tag.changed(place, pick(tag.fields[place]))
+            for value in samples(tag.fields[place]):
+                changed = tag.changed(place, value)
                 yield from both(changed.text(), changed.bank())
         for pick in (smallest, largest):
             whole = Tag(tag.scheme, tag.partition, pick)
@@ -169,6 +173,24 @@ def groups():
                     yield bank, "T " + shown if taken else refused(19, bank)
 
 
+def numerics():
+    """Numeric strings of every count of digits, both ways; integers with no 1 in front, or nothing behind it."""
+    for tag in (tag for tag in scheme_tags() if tag.has("numeric")):
+        place = tag.place("numeric")
+        field = tag.fields[place]
+        integers = list(range(10))
+        for count in range(1, field.most + 1):
+            mixed = "04711235803112247"[:count]
+            ends = ("0" * count, "1".zfill(count), "1".ljust(count, "0"), "9" * count)
+            for digits in dict.fromkeys((mixed, *ends)):
+                changed = tag.changed(place, numeric_value(digits))
+                yield from both(text(tag.scheme.name, tag.parts()[:-1] + [digits]), changed.bank())
+            integers += [first * 10**count + more for first in range(2, 10) for more in (0, 10**count - 1)]
+        for integer in (integer for integer in integers if integer < 2**field.bits):
+            bank = tag.changed(place, integer).bank()
+            yield bank, refused(19, bank)
+
+
 def characters():
     """Every byte in the first, middle and last place of a string's text, and every escape in three spellings."""
     tag = next(tag for tag in scheme_tags() if tag.has("string"))
@@ -193,6 +215,9 @@ def lengths():
     """Lines as long as a line may be, and a little less and more; banks with too few bytes and with more."""
     for start, end, stated in (
         *((start, "9", "N 8") for start in (ROW_1, ROW_6, "urn:epc:tag:gid-96:1.2.3")),
+        *((start, end, "N 8") for start in (GDTI_113, SGCN) for end in ("0", "1", "9")),
+        *((GDTI_113, end, "N 7") for end in ("a", "0.", "\0")),
+        *((CPI, end, "N 6") for end in ("0", "9", "a")),
         *((ROW_6, end, "N 8") for end in ("a", ".", "-0")),
         *((ROW_1, end, "N 7") for end in ("a", ".", "\0", "%2F")),
         *(("urn:", end, "N 2") for end in ("epc:tag", "0", "\xFF")),
@@ -237,9 +262,9 @@ def odd_bytes():
 
 
 def mutations():
-    """Four thousand tags with one character or one bit changed."""
+    """Five thousand tags with one character or one bit changed."""
     random = Random(20)
-    return [(mutated(random, random.tag()), None) for _ in range(4000)]
+    return [(mutated(random, random.tag()), None) for _ in range(5000)]
 
 
 def hostile():
@@ -275,6 +300,7 @@ BLOCKS = (
     headers,
     first_rule,
     groups,
+    numerics,
     characters,
     lengths,
     odd_bytes,

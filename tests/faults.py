@@ -1,4 +1,4 @@
-"""Texts and banks with a fault, and the number that document 01 gives for it."""
+"""Texts and banks with a fault, and the number that document 01, or request C-11 of document 02, gives for it."""
 
 from itertools import combinations
 
@@ -11,8 +11,9 @@ NO_STRING = (
     *("", "a b", " ", "#", "$", "@", "[", "\\", "^", "`", "{", "~", "\x7F", "\x80", "\0", "a\r", '"', "&", "/"),
     *("<", ">", "?", "%", "%2", "%%", "%25%", "a%", "a%2", "%2f", "%41", "%2E", "%2G", "%G2", "%00", "%A5", "%7E"),
 )
+NO_NUMERIC = ("", ".", "a", "1a", "a1", "-1", "+1", " 1", "1 ", "1\r", "1\xB2", "\0", "1.", "1.2", "%31", "1/", ":1")
 # The fields that are at fault for these numbers of a bank.
-AT_FAULT = {15: ("zeros", "fill"), 16: ("partition",), 17: ("prefix",), 18: ("reference",), 19: ("string",)}
+AT_FAULT = {15: ("zeros", "fill"), 16: ("partition",), 17: ("prefix",), 18: ("reference",), 19: ("string", "numeric")}
 BEYOND = ("9" * 19, "9" * 20, str(2**63), str(2**64), str(2**64 + 1), str(2**128), str(2**128 + 1), "1" + "0" * 40)
 
 
@@ -28,15 +29,19 @@ def texts(tag):
             yield 4, [*replaced(tag, place, NO_FILTER), cut(tag, place)]
         elif field.kind == "prefix":
             yield 5, [*replaced(tag, place, NO_PREFIX), cut(tag, place)]
-        elif field.kind == "reference":
+        elif field.kind == "reference" and field.most is None:
             yield 6, bad_references(tag, place, last)
         elif field.kind == "string":
             yield from bad_strings(tag, place, field.bits // 7)
+        elif field.kind == "numeric":
+            yield from bad_numerics(tag, place, field.most)
         elif last:
             yield 7, replaced(tag, place, (*NO_INTEGER, "1.", "1.2", "0" + "9" * 30, "9" * 30 + "x"))
             yield 8, replaced(tag, place, too_large(field))
         else:
-            yield first + place, [*replaced(tag, place, NO_INTEGER + too_large(field)), cut(tag, place)]
+            others = replaced(tag, place, NO_INTEGER + too_large(field))
+            others += more_digits(tag, place) if field.most else []
+            yield first + place, [*others, cut(tag, place)]
 
 
 def bad_starts(tag):
@@ -73,6 +78,20 @@ def bad_references(tag, place, last):
     prefixes = [other for other in (prefix[:-1], prefix + "0") if 6 <= len(other) <= 12]
     lines = replaced(tag, place, others) + replaced(tag, place - 1, prefixes)
     return lines if last else [*lines, cut(tag, place)]
+
+
+def more_digits(tag, place):
+    """An integer of the row's digits with one more, with zeros before it, and with a prefix whose row has fewer."""
+    part, prefix = tag.parts()[place], tag.parts()[place - 1]
+    prefixes = [prefix + "0"] if len(prefix) < 12 else []
+    return replaced(tag, place, (part + "0", "0" + part, "0" + part[1:])) + replaced(tag, place - 1, prefixes)
+
+
+def bad_numerics(tag, place, most):
+    spoilt = ("9" * most + "x", "9" * most + ".", "x" + "0" * most, "0" * 15 + "a" + "0" * 14, "9" * 30 + "\r")
+    yield 7, replaced(tag, place, (*NO_NUMERIC, *spoilt))
+    longer = ("0" * (most + 1), "9" * (most + 1), "1" + "0" * most, "0" * most + "1", "0" * 30)
+    yield 8, replaced(tag, place, (*longer, *BEYOND))
 
 
 def bad_strings(tag, place, most):
@@ -122,13 +141,18 @@ def values(tag):
         strings = ([], [0] * (most - 1) + [0x61], [0, 0x61], [0x61, 0, 0x61], [0x61] * (most - 2) + [0, 0x61])
         outside = ([0x61, 0x20], [0x40], [0x61] * (most - 1) + [0x7F], [0x23] * most, [0x61, 1], [0x7F] * most)
         yield 19, [tag.changed(place, string_value(codes, bits)).bank() for codes in strings + outside]
+    if tag.has("numeric"):
+        place = tag.place("numeric")
+        bits, most = tag.fields[place].bits, tag.fields[place].most
+        integers = (0, 1, 2, 9, 20, 99, 2 * 10 ** (most // 2), 10**most - 1, 2 * 10**most, 2**bits - 1)
+        yield 19, [tag.changed(place, integer).bank() for integer in integers]
 
 
 def text_pairs(tag):
     """Texts with two faults, and the first one's number."""
     kinds = [tag.fields[at].kind for at in tag.written()]
-    bad = {"filter": "8", "prefix": "12345", "reference": "x", "integer": "01", "string": "%"}
-    numbers = {"filter": 4, "prefix": 5, "reference": 6, "integer": 7, "string": 7}
+    bad = {"filter": "8", "prefix": "12345", "reference": "x", "integer": "01", "string": "%", "numeric": "x"}
+    numbers = {"filter": 4, "prefix": 5, "reference": 6, "integer": 7, "string": 7, "numeric": 7}
     faults = [(5 + i if "filter" not in kinds else numbers[kind], i, bad[kind]) for i, kind in enumerate(kinds)]
     parts = tag.parts()
     for (number, first, one), (_, second, other) in combinations(faults, 2):

@@ -2,7 +2,7 @@
 
 import random
 
-from tags import CHARACTERS, SCHEMES, Tag, limit, partitions, string_value
+from tags import CHARACTERS, SCHEMES, Tag, limit, numeric_value, partitions, string_value
 
 BYTES = [chr(byte) for byte in range(256) if byte != 0x0A]
 USUAL = "0123456789.:%ABCDEFabf-_"
@@ -21,10 +21,18 @@ class Random:
         return items[self.below(len(items))]
 
     def value(self, field):
-        """A value for a field that a text writes; half of the numbers are shorter than their field."""
+        """A value for a field that a text writes.
+
+        Half of the numbers are shorter than their field; half of the numeric strings begin with zeros.
+        """
         if field.kind == "string":
             count = 1 + self.below(field.bits // 7)
             return string_value([self.choice(CHARACTERS) for _ in range(count)], field.bits)
+        if field.kind == "numeric":
+            count = 1 + self.below(field.most)
+            digits = "".join(self.choice("0123456789") for _ in range(count))
+            zeros = 1 + self.below(count) if self.below(2) else 0
+            return numeric_value("0" * zeros + digits[zeros:])
         return self.below(limit(field)) >> (self.below(field.bits) if self.below(2) else 0)
 
     def tag(self):

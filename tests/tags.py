@@ -1,7 +1,8 @@
 """Tags made part by part: their texts, their banks, their raw lines.
 
 The scheme and partition tables are read from docs/01-scope.md itself, so no number of them is typed
-here, and what is made here can be held against any codec.
+here, and what is made here can be held against any codec. Typed are only the rows of request C-11, which
+docs/02-change-requests.md has in a sentence.
 """
 
 import copy
@@ -19,8 +20,18 @@ CHARACTERS = [c for c in range(0x21, 0x7B) if c not in (0x23, 0x24, 0x40, 0x5B, 
 ESCAPED = b'"%&/<>?'
 assert len(CHARACTERS) == 82
 
+# C-11's schemes in the form of document 01's rows, and the column of cpi-96's own table (document 000, table 14-24),
+# from partition value 0 on. After a slash: the most digits.
+ADDED_SCHEMES = (
+    "| gdti-113 | 3A | 113 | 8 | F, table D, numeric 58/17 |",
+    "| sgcn-96 | 3F | 96 | 6 | F, table D, numeric 41/12 |",
+    "| cpi-96 | 3C | 96 | 6 | F, table CPI, integer 31 |",
+)
+ADDED_COLUMN = ("11/3", "14/4", "17/5", "21/6", "24/7", "27/8", "31/9")
+
 Scheme = namedtuple("Scheme", "name header bits words parts")
-Field = namedtuple("Field", "kind bits digits", defaults=[None])
+# `digits` is how many are written, zeros before them; `most` how many may be written.
+Field = namedtuple("Field", "kind bits digits most", defaults=[None, None])
 
 
 def document_rows(heading):
@@ -37,6 +48,7 @@ def table_rows(lines):
 
 def read_schemes():
     rows = document_rows("| Scheme | Header | Bits | Words | Parts after the header |")
+    rows += table_rows(ADDED_SCHEMES)
     return [Scheme(name, int(head, 16), int(bits), int(words), parts) for name, head, bits, words, parts in rows]
 
 
@@ -44,10 +56,11 @@ def read_partitions():
     """For each partition value the field of the prefix, and that of the reference by the table's name."""
     rows = document_rows("| P | Prefix bits/digits | A bits/digits | B | C | D | E bits |")
     partitions = []
-    for _, prefix, *padded, integer in rows:
+    for (_, prefix, *padded, integer), short in zip(rows, ADDED_COLUMN, strict=True):
         row = {"prefix": Field("prefix", *numbers(prefix)), "E": Field("integer", *numbers(integer))}
         row |= {name: Field("reference", *numbers(cell)) for name, cell in zip("ABCD", padded, strict=True)}
-        partitions.append(row)
+        bits, most = numbers(short)
+        partitions.append(row | {"CPI": Field("reference", bits, most=most)})
     return partitions
 
 
@@ -57,7 +70,7 @@ def numbers(cell):
 
 SCHEMES = read_schemes()
 PARTITIONS = read_partitions()
-assert len(SCHEMES) == 13 and len(PARTITIONS) == 7
+assert len(SCHEMES) == 16 and len(PARTITIONS) == 7
 
 
 def partitions(scheme):
@@ -80,6 +93,9 @@ def layout(scheme, partition):
             fields.append(Field("zeros", int(part.split()[0])))
         elif part.startswith(("integer ", "string ")):
             fields.append(Field(part.split()[0], int(part.split()[1])))
+        elif part.startswith("numeric "):
+            bits, most = numbers(part.split()[1])
+            fields.append(Field("numeric", bits, most=most))
     fields.append(Field("fill", 16 * scheme.words - scheme.bits))
     assert sum(field.bits for field in fields) == 16 * scheme.words
     return fields
@@ -87,7 +103,10 @@ def layout(scheme, partition):
 
 def limit(field):
     """The values of a field in a text are below this; a string has none."""
-    return 10**field.digits if field.digits is not None else 2**field.bits
+    if field.kind == "numeric":
+        return 2 * 10**field.most
+    digits = field.most if field.digits is None else field.digits
+    return 2**field.bits if digits is None else 10**digits
 
 
 def string_value(codes, bits):
@@ -96,6 +115,11 @@ def string_value(codes, bits):
     for code in codes:
         value = value << 7 | code
     return value << bits - 7 * len(codes)
+
+
+def numeric_value(digits):
+    """The integer of a numeric string: a 1 before its digits."""
+    return int("1" + digits)
 
 
 def string_text(codes):
@@ -107,6 +131,8 @@ def field_text(field, value):
     if field.kind == "string":
         groups = [value >> place & 0x7F for place in range(field.bits - 7, -1, -7)]
         return string_text([group for group in groups if group])
+    if field.kind == "numeric":
+        return str(value)[1:]
     if field.digits is None:
         return str(value)
     return f"{value:0{field.digits}d}" if field.digits else ""
@@ -123,7 +149,7 @@ class Tag:
 
     def written(self):
         """The places of the fields that a text writes."""
-        kinds = ("filter", "prefix", "reference", "integer", "string")
+        kinds = ("filter", "prefix", "reference", "integer", "string", "numeric")
         return [place for place, field in enumerate(self.fields) if field.kind in kinds]
 
     def place(self, *kinds):
@@ -160,12 +186,16 @@ def text(name, parts):
 
 
 def smallest(field):
-    return string_value([0x21], field.bits) if field.kind == "string" else 0
+    if field.kind == "string":
+        return string_value([0x21], field.bits)
+    return numeric_value("0") if field.kind == "numeric" else 0
 
 
 def middle(field):
     if field.kind == "string":
         return string_value([0x4D, 0x2F, 0x2E, 0x30] * (field.bits // 28), field.bits)
+    if field.kind == "numeric":
+        return numeric_value(("04711" * 4)[: field.most // 2])
     return limit(field) // 2
 
 
@@ -173,6 +203,14 @@ def largest(field):
     if field.kind == "string":
         return string_value([0x7A] * (field.bits // 7), field.bits)
     return limit(field) - 1
+
+
+def samples(field):
+    """A field's smallest, middle and largest value; of a numeric string also one nine, all zeros, zeros and a one."""
+    values = [smallest(field), middle(field), largest(field)]
+    if field.kind == "numeric":
+        values += [numeric_value(digits) for digits in ("9", "0" * field.most, "1".zfill(field.most))]
+    return values
 
 
 def raw_line(bank):

@@ -70,13 +70,20 @@ impl<'a> Decoder<'a> {
 
     fn part(&mut self, part: &Part) -> Result<(), u8> {
         match *part {
-            Part::Filter => self.integer(FILTER_BITS),
+            Part::Filter => self.filter(),
             Part::Prefix => self.prefix(),
             Part::Reference(table) => self.padded(self.row.reference(table), refusal::REFERENCE),
-            Part::RowInteger => self.integer(self.row.integer.bits),
-            Part::Integer(integer) => self.integer(integer.bits),
+            Part::RowInteger(table) => self.integer(self.row.integer(table)),
+            Part::Integer(integer) => self.integer(integer),
             Part::String { bits } => self.string(bits),
+            Part::NumericString(kind) => self.numeric_string(kind),
         }
+    }
+
+    fn filter(&mut self) -> Result<(), u8> {
+        let value = self.bits.take(FILTER_BITS);
+        self.line.integer(value);
+        Ok(())
     }
 
     fn prefix(&mut self) -> Result<(), u8> {
@@ -94,8 +101,12 @@ impl<'a> Decoder<'a> {
         Ok(())
     }
 
-    fn integer(&mut self, bits: usize) -> Result<(), u8> {
-        let value = self.bits.take(bits);
+    /// Only a reference's limit is below what its bits hold.
+    fn integer(&mut self, kind: Integer) -> Result<(), u8> {
+        let value = self.bits.take(kind.bits);
+        if value >= kind.limit {
+            return Err(refusal::REFERENCE);
+        }
         self.line.integer(value);
         Ok(())
     }
@@ -112,6 +123,18 @@ impl<'a> Decoder<'a> {
             let form = characters::form(group).filter(|_| !ended).ok_or(refusal::STRING)?;
             self.line.push(form);
         }
+        Ok(())
+    }
+
+    /// A number that reads as a 1 and so many digits; the digits are what is shown.
+    fn numeric_string(&mut self, kind: NumericString) -> Result<(), u8> {
+        let value = self.bits.take(kind.bits);
+        let digits = value.checked_ilog10().unwrap_or(0);
+        let one = 10u64.pow(digits);
+        if !(1..=kind.most as u32).contains(&digits) || value >= 2 * one {
+            return Err(refusal::STRING);
+        }
+        self.line.padded(value - one, digits as usize);
         Ok(())
     }
 }

@@ -53,9 +53,10 @@ impl<'a> Encoder<'a> {
             Part::Reference(table) => {
                 self.padded(characters, self.row.reference(table), refusal::SECOND)
             }
-            Part::RowInteger => self.integer(characters, self.row.integer),
+            Part::RowInteger(table) => self.integer(characters, self.row.integer(table)),
             Part::Integer(integer) => self.integer(characters, integer),
             Part::String { bits } => self.string(characters, bits),
+            Part::NumericString(kind) => self.numeric_string(characters, kind),
         }
     }
 
@@ -106,6 +107,12 @@ impl<'a> Encoder<'a> {
             _ if count > most => Err(refusal::LAST_SIZE),
             _ => Ok(()),
         }
+    }
+
+    fn numeric_string(&mut self, characters: &[u8], kind: NumericString) -> Result<(), u8> {
+        let value = numerals::numeric_string(characters, kind)?;
+        self.bits.push(value, kind.bits);
+        Ok(())
     }
 }
 

@@ -1,4 +1,5 @@
-//! A second codec for the tags of docs/01-scope.md, written from that paper alone, to compare with.
+//! A second codec for the tags of docs/01-scope.md and of request C-11 in docs/02-change-requests.md,
+//! written from those papers alone, to compare with.
 //!
 //! A scheme is a list of parts, and each part turns its characters into bits and its bits into
 //! characters; the lists and all numbers stand in `tables`. No call allocates, and none touches its

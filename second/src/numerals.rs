@@ -1,6 +1,6 @@
 //! Decimal and hexadecimal digits, read.
 
-use crate::tables::Integer;
+use crate::tables::{refusal, Integer, NumericString};
 
 /// The most digits that any integer of ours can have; their value fits 64 bits.
 const MOST_DIGITS: usize = 19;
@@ -20,7 +20,18 @@ pub fn integer(text: &[u8], kind: Integer) -> Result<u64, u8> {
     if text.len() > MOST_DIGITS {
         return Err(kind.size);
     }
-    Some(value(text)).filter(|value| value >> kind.bits == 0).ok_or(kind.size)
+    Some(value(text)).filter(|&value| value < kind.limit).ok_or(kind.size)
+}
+
+/// The value of a 1 and the digits of a numeric string, or its refusal: form before size.
+pub fn numeric_string(text: &[u8], kind: NumericString) -> Result<u64, u8> {
+    if text.is_empty() || !all_digits(text) {
+        return Err(refusal::LAST_FORM);
+    }
+    if text.len() > kind.most {
+        return Err(refusal::LAST_SIZE);
+    }
+    Ok(10u64.pow(text.len() as u32) + value(text))
 }
 
 fn all_digits(text: &[u8]) -> bool {

@@ -1,4 +1,5 @@
-//! Every number of document 01, typed from its tables and sentences.
+//! Every number of document 01 and of document 02's request C-11, typed from their tables and
+//! sentences.
 
 /// Numbers of refusals, "Numbers given, and when".
 pub mod refusal {
@@ -60,12 +61,20 @@ pub struct Padded {
     pub digits: usize,
 }
 
-/// A number written without leading zeros, and its refusals in a text.
+/// A number written without leading zeros and below a limit, and its refusals in a text.
 #[derive(Clone, Copy)]
 pub struct Integer {
     pub bits: usize,
+    pub limit: u64,
     pub form: u8,
     pub size: u8,
+}
+
+/// 1 to `most` digits; with a 1 put before them they are one number of so many bits.
+#[derive(Clone, Copy)]
+pub struct NumericString {
+    pub bits: usize,
+    pub most: usize,
 }
 
 /// One of the partition tables whose reference is zero-filled.
@@ -77,28 +86,40 @@ pub enum Table {
     D,
 }
 
-/// A row of the partition tables; `references` holds the columns A to D, `integer` the column E.
+/// One of the partition tables whose reference is an integer: table E, and cpi-96's own.
+#[derive(Clone, Copy)]
+pub enum IntegerTable {
+    E,
+    Cpi,
+}
+
+/// A row of the partition tables; `references` holds the columns A to D, `integers` those of table E
+/// and of cpi-96's own.
 pub struct Row {
     pub prefix: Padded,
     pub references: [Padded; 4],
-    pub integer: Integer,
+    pub integers: [Integer; 2],
 }
 
 impl Row {
     pub fn reference(&self, table: Table) -> Padded {
         self.references[table as usize]
     }
+
+    pub fn integer(&self, table: IntegerTable) -> Integer {
+        self.integers[table as usize]
+    }
 }
 
 /// The rows by partition value; 7 has none.
 pub static ROWS: [Row; 7] = [
-    row((40, 12), [(4, 1), (18, 5), (4, 0), (1, 0)], 42),
-    row((37, 11), [(7, 2), (21, 6), (7, 1), (4, 1)], 45),
-    row((34, 10), [(10, 3), (24, 7), (10, 2), (7, 2)], 48),
-    row((30, 9), [(14, 4), (28, 8), (14, 3), (11, 3)], 52),
-    row((27, 8), [(17, 5), (31, 9), (17, 4), (14, 4)], 55),
-    row((24, 7), [(20, 6), (34, 10), (20, 5), (17, 5)], 58),
-    row((20, 6), [(24, 7), (38, 11), (24, 6), (21, 6)], 62),
+    row((40, 12), [(4, 1), (18, 5), (4, 0), (1, 0)], 42, (11, 3)),
+    row((37, 11), [(7, 2), (21, 6), (7, 1), (4, 1)], 45, (14, 4)),
+    row((34, 10), [(10, 3), (24, 7), (10, 2), (7, 2)], 48, (17, 5)),
+    row((30, 9), [(14, 4), (28, 8), (14, 3), (11, 3)], 52, (21, 6)),
+    row((27, 8), [(17, 5), (31, 9), (17, 4), (14, 4)], 55, (24, 7)),
+    row((24, 7), [(20, 6), (34, 10), (20, 5), (17, 5)], 58, (27, 8)),
+    row((20, 6), [(24, 7), (38, 11), (24, 6), (21, 6)], 62, (31, 9)),
 ];
 
 /// A part of a scheme after its header, that a text writes.
@@ -108,12 +129,12 @@ pub enum Part {
     /// The partition value and the company prefix; they pick the row.
     Prefix,
     Reference(Table),
-    /// The reference of table E.
-    RowInteger,
+    RowInteger(IntegerTable),
     Integer(Integer),
     String {
         bits: usize,
     },
+    NumericString(NumericString),
 }
 
 impl Part {
@@ -122,9 +143,11 @@ impl Part {
         match self {
             Part::Filter => refusal::FILTER,
             Part::Prefix => refusal::FIRST,
-            Part::Reference(_) => refusal::SECOND,
+            Part::Reference(_) | Part::RowInteger(IntegerTable::Cpi) => refusal::SECOND,
             Part::Integer(integer) => integer.form,
-            Part::RowInteger | Part::String { .. } => refusal::LAST_FORM,
+            Part::RowInteger(IntegerTable::E) | Part::String { .. } | Part::NumericString(_) => {
+                refusal::LAST_FORM
+            }
         }
     }
 }
@@ -154,7 +177,7 @@ impl Scheme {
     }
 }
 
-pub static SCHEMES: [Scheme; 13] = [
+pub static SCHEMES: [Scheme; 16] = [
     scheme(b"sgtin-96", 0x30, 96, 6, &[F, P, A, integer(38)], 0),
     scheme(b"sgtin-198", 0x36, 198, 13, &[F, P, A, string(140)], 0),
     scheme(b"sscc-96", 0x31, 96, 6, &[F, P, B], 24),
@@ -168,6 +191,9 @@ pub static SCHEMES: [Scheme; 13] = [
     scheme(b"gdti-96", 0x2C, 96, 6, &[F, P, D, integer(41)], 0),
     scheme(b"gdti-174", 0x3E, 174, 11, &[F, P, D, string(119)], 0),
     scheme(b"gid-96", 0x35, 96, 6, &[first(28), second(24), integer(36)], 0),
+    scheme(b"gdti-113", 0x3A, 113, 8, &[F, P, D, numeric_string(58, 17)], 0),
+    scheme(b"sgcn-96", 0x3F, 96, 6, &[F, P, D, numeric_string(41, 12)], 0),
+    scheme(b"cpi-96", 0x3C, 96, 6, &[F, P, CPI, integer(31)], 0),
 ];
 
 const F: Part = Part::Filter;
@@ -176,10 +202,15 @@ const A: Part = Part::Reference(Table::A);
 const B: Part = Part::Reference(Table::B);
 const C: Part = Part::Reference(Table::C);
 const D: Part = Part::Reference(Table::D);
-const E: Part = Part::RowInteger;
+const E: Part = Part::RowInteger(IntegerTable::E);
+const CPI: Part = Part::RowInteger(IntegerTable::Cpi);
 
 const fn string(bits: usize) -> Part {
     Part::String { bits }
+}
+
+const fn numeric_string(bits: usize, most: usize) -> Part {
+    Part::NumericString(NumericString { bits, most })
 }
 
 const fn integer(bits: usize) -> Part {
@@ -188,26 +219,42 @@ const fn integer(bits: usize) -> Part {
 
 /// gid-96's first two parts are refused by the numbers of a prefix and of a reference.
 const fn first(bits: usize) -> Part {
-    Part::Integer(Integer { bits, form: refusal::FIRST, size: refusal::FIRST })
+    Part::Integer(any_of(bits, refusal::FIRST, refusal::FIRST))
 }
 
 const fn second(bits: usize) -> Part {
-    Part::Integer(Integer { bits, form: refusal::SECOND, size: refusal::SECOND })
+    Part::Integer(any_of(bits, refusal::SECOND, refusal::SECOND))
 }
 
 const fn last(bits: usize) -> Integer {
-    Integer { bits, form: refusal::LAST_FORM, size: refusal::LAST_SIZE }
+    any_of(bits, refusal::LAST_FORM, refusal::LAST_SIZE)
+}
+
+/// An integer that has any value of its bits.
+const fn any_of(bits: usize, form: u8, size: u8) -> Integer {
+    Integer { bits, limit: 1 << bits, form, size }
+}
+
+/// A reference that is an integer of at most so many digits.
+const fn at_most((bits, digits): (usize, usize)) -> Integer {
+    let limit = 10u64.pow(digits as u32);
+    Integer { bits, limit, form: refusal::SECOND, size: refusal::SECOND }
 }
 
 const fn padded((bits, digits): (usize, usize)) -> Padded {
     Padded { bits, digits }
 }
 
-const fn row(prefix: (usize, usize), [a, b, c, d]: [(usize, usize); 4], e: usize) -> Row {
+const fn row(
+    prefix: (usize, usize),
+    [a, b, c, d]: [(usize, usize); 4],
+    e: usize,
+    cpi: (usize, usize),
+) -> Row {
     Row {
         prefix: padded(prefix),
         references: [padded(a), padded(b), padded(c), padded(d)],
-        integer: last(e),
+        integers: [last(e), at_most(cpi)],
     }
 }
 
@@ -231,9 +278,10 @@ mod tests {
             Part::Filter => FILTER_BITS,
             Part::Prefix => PARTITION_BITS + row.prefix.bits,
             Part::Reference(table) => row.reference(*table).bits,
-            Part::RowInteger => row.integer.bits,
+            Part::RowInteger(table) => row.integer(*table).bits,
             Part::Integer(integer) => integer.bits,
             Part::String { bits } => *bits,
+            Part::NumericString(string) => string.bits,
         }
     }
 
@@ -255,6 +303,14 @@ mod tests {
                 assert!(10u128.pow(column.digits as u32) <= 1 << column.bits);
             }
             assert!(10u128.pow(row.prefix.digits as u32) > 1 << (row.prefix.bits - 1));
+            for column in &row.integers {
+                assert!(column.limit <= 1 << column.bits);
+            }
+        }
+        for part in SCHEMES.iter().flat_map(|scheme| scheme.parts) {
+            if let Part::NumericString(string) = part {
+                assert!(2 * 10u128.pow(string.most as u32) <= 1 << string.bits);
+            }
         }
     }
 

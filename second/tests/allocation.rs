@@ -36,8 +36,20 @@ fn the_counter_counts() {
 
 #[test]
 fn no_call_allocates() {
-    let texts = ["urn:epc:tag:sgtin-198:0.0614141.812345.a%2Fb", "urn:epc:tag:gid-96:1.2.03", ""];
-    let banks = [&[0x30, 0, 0x35, 0, 0, 0, 0, 0, 0, 0, 0, 0, 0, 0][..], &[8, 0, 1, 1], &[]];
+    let texts = [
+        "urn:epc:tag:sgtin-198:0.0614141.812345.a%2Fb",
+        "urn:epc:tag:sgcn-96:3.9521141.67890.04711",
+        "urn:epc:tag:cpi-96:3.9521141.98765.12345",
+        "urn:epc:tag:gid-96:1.2.03",
+        "",
+    ];
+    let banks = [
+        &[0x30, 0, 0x35, 0, 0, 0, 0, 0, 0, 0, 0, 0, 0, 0][..],
+        &[0x30, 0, 0x3C, 0, 0, 0, 0, 0, 0, 0, 0, 0, 0, 0],
+        &[0x30, 0, 0x3F, 0, 0, 0, 0, 0, 0, 0, 0, 0, 0, 10],
+        &[8, 0, 1, 1],
+        &[],
+    ];
     let (mut bank, mut text) = ([0; 64], [0; 160]);
     let mut answer = Vec::with_capacity(1000);
     let count = allocations(|| {

@@ -68,8 +68,9 @@ fn texts_and_codes_of_our_schemes_agree() {
         assert_eq!(decode(&bank), Ok(tag.clone()), "{}", vector.id);
         seen.push(scheme.name);
     }
-    assert_eq!(seen.len(), 14);
-    assert!(SCHEMES.iter().all(|scheme| seen.contains(&scheme.name)));
+    assert_eq!(seen.len(), 18);
+    let unseen = SCHEMES.iter().map(|scheme| scheme.name).filter(|name| !seen.contains(name));
+    assert_eq!(unseen.collect::<Vec<_>>(), [b"gdti-113"], "the standard prints no example of it");
 }
 
 #[test]
@@ -105,7 +106,7 @@ fn other_schemes_are_refused() {
             banks += 1;
         }
     }
-    assert_eq!((texts, banks), (13, 27));
+    assert_eq!((texts, banks), (9, 23));
 }
 
 #[test]

@@ -1,13 +1,27 @@
-//! The typed tables, written as document 01 writes them, are the rows that stand there.
+//! The typed tables, written as document 01 writes them, are the rows that stand there; what document
+//! 02 says of the schemes that it adds stands in it.
 
 use second::tables::*;
 
-/// The rows of the document's table that has this heading.
+/// How many of the schemes, from the first on, are document 01's.
+const BASE: usize = 13;
+
+fn document(name: &str) -> String {
+    let folder = concat!(env!("CARGO_MANIFEST_DIR"), "/../docs/");
+    std::fs::read_to_string(folder.to_string() + name).unwrap()
+}
+
+/// The rows of document 01's table that has this heading.
 fn table(heading: &str) -> Vec<String> {
-    let path = concat!(env!("CARGO_MANIFEST_DIR"), "/../docs/01-scope.md");
-    let document = std::fs::read_to_string(path).unwrap();
+    let document = document("01-scope.md");
     let rows = document.lines().skip_while(|line| *line != heading).skip(2);
     rows.take_while(|line| line.starts_with('|')).map(str::to_string).collect()
+}
+
+/// The paragraph of document 02 that begins with a request's number.
+fn request(number: &str) -> String {
+    let start = format!("**{number}. ");
+    document("02-change-requests.md").lines().find(|line| line.starts_with(&start)).unwrap().into()
 }
 
 fn part(part: &Part) -> Option<String> {
@@ -18,9 +32,11 @@ fn part(part: &Part) -> Option<String> {
         Part::Reference(Table::B) => Some("table B".into()),
         Part::Reference(Table::C) => Some("table C".into()),
         Part::Reference(Table::D) => Some("table D".into()),
-        Part::RowInteger => Some("table E".into()),
+        Part::RowInteger(IntegerTable::E) => Some("table E".into()),
+        Part::RowInteger(IntegerTable::Cpi) => Some("its own table".into()),
         Part::Integer(integer) => Some(format!("integer {}", integer.bits)),
         Part::String { bits } => Some(format!("string {bits}")),
+        Part::NumericString(NumericString { bits, most }) => Some(format!("digits {bits} {most}")),
     }
 }
 
@@ -39,7 +55,7 @@ fn parts(scheme: &Scheme) -> String {
 
 #[test]
 fn schemes() {
-    let typed = SCHEMES.iter().map(|scheme| {
+    let typed = SCHEMES[..BASE].iter().map(|scheme| {
         let name = std::str::from_utf8(scheme.name).unwrap();
         let Scheme { header, bits, words, .. } = scheme;
         format!("| {name} | {header:02X} | {bits} | {words} | {} |", parts(scheme))
@@ -53,9 +69,41 @@ fn rows() {
     let cell = |column: &Padded| format!("{}/{}", column.bits, column.digits);
     let typed = ROWS.iter().enumerate().map(|(partition, row)| {
         let references = row.references.iter().map(cell).collect::<Vec<_>>().join(" | ");
-        let (prefix, integer) = (cell(&row.prefix), row.integer.bits);
+        let (prefix, integer) = (cell(&row.prefix), row.integer(IntegerTable::E).bits);
         format!("| {partition} | {prefix} | {references} | {integer} |")
     });
     let heading = "| P | Prefix bits/digits | A bits/digits | B | C | D | E bits |";
     assert_eq!(typed.collect::<Vec<_>>(), table(heading));
+}
+
+#[test]
+fn schemes_of_document_02() {
+    let [gdti, sgcn, cpi] = &SCHEMES[BASE..] else { panic!("three schemes") };
+    let named = |scheme: &Scheme, header: &str, bits: &str| {
+        format!("{} ({header}{:02X}{bits})", scheme.name.escape_ascii(), scheme.header)
+    };
+    let bits = format!(", {} bits", gdti.bits);
+    let names = [named(gdti, "header ", &bits), named(sgcn, "", ""), named(cpi, "", "")];
+    assert_eq!([sgcn.bits, cpi.bits], [96, 96], "as their names say");
+    let request = request("C-11");
+    assert!(request.contains(&format!("{}, {} and {}", names[0], names[1], names[2])));
+    assert!(
+        request.contains("; 58 bits and up to 17 digits, 41 bits and up to 12. Both use table D.")
+    );
+    assert_eq!(parts(gdti), "F, table D, digits 58 17");
+    assert_eq!(parts(sgcn), "F, table D, digits 41 12");
+    assert!(request.contains("cpi-96 has its own partition table"));
+    assert!(request.contains("and an integer serial of 31 bits"));
+    assert_eq!(parts(cpi), "F, its own table, integer 31");
+}
+
+/// Prefix and reference have 51 bits and 15 digits between them in every row of cpi-96's own table.
+#[test]
+fn rows_of_document_02() {
+    assert!(request("C-14").contains("51 for cpi-96"));
+    for row in &ROWS {
+        let Integer { bits, limit, .. } = row.integer(IntegerTable::Cpi);
+        assert_eq!(row.prefix.bits + bits, 51);
+        assert_eq!(limit, 10u64.pow(15 - row.prefix.digits as u32));
+    }
 }

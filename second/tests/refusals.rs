@@ -54,7 +54,11 @@ fn refusal_2_another_start() {
 fn refusal_3_another_name() {
     assert_refused(3, &["", ":", "gid-96", "gid-96.", "gid-96 :1.2.3", "Gid-96:1.2.3"]);
     assert_refused(3, &["gid-9:1.2.3", "gid-966:1.2.3", "gsrn-96p:3.0614141.1234567890"]);
-    assert_refused(3, &["gdti-113:3.9521141.12345.1", "cpi-96:3.9521141.98765.12345"]);
+    assert_refused(3, &["gdti-11:3.9521141.12345.1", "gdti-113+:3.9521141.12345.1"]);
+    assert_refused(3, &["sgcn+:3.9521141.67890.04711", "sgcn:3.9521141.67890.04711"]);
+    assert_refused(3, &["cpi-var:3.9521141.98765.12345", "cpi-97:3.9521141.98765.12345"]);
+    assert_refused(3, &["giai-202:3.9521141.5678", "itip-110:3.9521141.012345.01.02.981"]);
+    assert_refused(3, &["usdod-96:3.CAGEY.5678", "adi-var:3.35962.PQ7VZ4.M37GXB92"]);
     assert_refused(3, &["[att=x01]:sgtin-96:3.0614141.812345.6789"]);
 }
 
@@ -124,6 +128,7 @@ fn refusal_8_size_of_integers() {
         ("sgln-96:3.9521141.12345.", 41),
         ("grai-96:0.000000000001..", 38),
         ("gdti-96:3.9521141.12345.", 41),
+        ("cpi-96:3.9521141.98765.", 31),
         ("gid-96:268435455.16777215.", 36),
         ("giai-96:3.952656789012.", 42),
         ("giai-96:3.95265678901.", 45),
@@ -194,13 +199,15 @@ fn refusals_11_and_12_for_every_control_word() {
 
 #[test]
 fn refusals_13_and_14_for_every_header() {
-    let long = [0x36, 0x39, 0x37, 0x3E];
-    let short = [0x30, 0x31, 0x32, 0x33, 0x34, 0x2D, 0x2E, 0x2C, 0x35];
+    let long = [0x36, 0x39, 0x37, 0x3E, 0x3A];
+    let short = [0x30, 0x31, 0x32, 0x33, 0x34, 0x2D, 0x2E, 0x2C, 0x35, 0x3C];
+    let numeric = [0x3F]; // zeros are no numeric string
     for header in 0..=255 {
         let bank = [&[0x30, 0x00, header][..], &[0; 11]].concat();
         let expected = match header {
             _ if long.contains(&header) => Some(14),
             _ if short.contains(&header) => None,
+            _ if numeric.contains(&header) => Some(19),
             _ => Some(13),
         };
         assert_eq!(decode(&bank).err(), expected, "{header:02X}");
@@ -217,6 +224,7 @@ fn refusal_15_for_every_bit_that_is_to_be_zero() {
         ("sgln-195:3.0614141.12345.a", 195, 13),
         ("grai-170:3.0614141.12345.a", 170, 11),
         ("gdti-174:3.0614141.12345.a", 174, 11),
+        ("gdti-113:3.0614141.12345.0", 113, 8),
     ] {
         let good = tag(text).unwrap();
         assert_eq!(good.len(), 2 + 2 * words);

@@ -38,23 +38,29 @@ fn tag(scheme: &Scheme, partition: usize, pick: &mut impl FnMut(u64) -> u64) -> 
     let mut tag = Tag { text: format!("urn:epc:tag:{name}"), code, separator: ':' };
     for part in scheme.parts {
         match *part {
-            Part::Filter => integer(&mut tag, 3, pick),
+            Part::Filter => filter(&mut tag, pick),
             Part::Prefix => {
                 tag.code += &format!("{partition:03b}");
                 padded(&mut tag, row.prefix, pick);
             }
             Part::Reference(table) => padded(&mut tag, row.reference(table), pick),
-            Part::RowInteger => integer(&mut tag, row.integer.bits, pick),
-            Part::Integer(kind) => integer(&mut tag, kind.bits, pick),
+            Part::RowInteger(table) => integer(&mut tag, row.integer(table), pick),
+            Part::Integer(kind) => integer(&mut tag, kind, pick),
             Part::String { bits } => string(&mut tag, bits, pick),
+            Part::NumericString(kind) => numeric_string(&mut tag, kind, pick),
         }
     }
     tag
 }
 
-fn integer(tag: &mut Tag, bits: usize, pick: &mut impl FnMut(u64) -> u64) {
-    let value = pick(1 << bits);
-    tag.part(&value.to_string(), value, bits);
+fn filter(tag: &mut Tag, pick: &mut impl FnMut(u64) -> u64) {
+    let value = pick(8);
+    tag.part(&value.to_string(), value, 3);
+}
+
+fn integer(tag: &mut Tag, kind: Integer, pick: &mut impl FnMut(u64) -> u64) {
+    let value = pick(kind.limit);
+    tag.part(&value.to_string(), value, kind.bits);
 }
 
 fn padded(tag: &mut Tag, kind: Padded, pick: &mut impl FnMut(u64) -> u64) {
@@ -77,6 +83,12 @@ fn string(tag: &mut Tag, bits: usize, pick: &mut impl FnMut(u64) -> u64) {
     }
     tag.text += &format!(".{text}");
     tag.code += &format!("{groups:0<bits$}");
+}
+
+fn numeric_string(tag: &mut Tag, kind: NumericString, pick: &mut impl FnMut(u64) -> u64) {
+    let count = 1 + pick(kind.most as u64) as usize;
+    let digits: String = (0..count).map(|_| pick(10).to_string()).collect();
+    tag.part(&digits, format!("1{digits}").parse().unwrap(), kind.bits);
 }
 
 fn assert_tag(scheme: &Scheme, tag: &Tag) {

@@ -1,12 +1,13 @@
 -- What a bank reads as, once its scheme is known: refused by one of the rules 16 to 19, or the record of its tag.
-use Prim.Native.Nat.{ℕ, _+_, _*_, _^_, _≤_, _<_}
+use Prim.Native.Nat.{ℕ, _+_, _-_, _*_, _^_, _≤_, _<_}
 use mathlib.Core.Path.{_≡_, sym, ap, _∙_}
 use mathlib.Core.Logic.{_⊎_}
-use mathlib.Core.List.{List}
+use mathlib.Core.List.{List, _++_}
 use native.Mathlib.Omega.{arith}
 use lib.Dec.{lit<}
 use lib.ListN.{length, drop, replicate}
 use lib.Seq.{drop-drop}
+use Rattle.numeral.specs.Numeral.{value}
 use Rattle.numeral.proofs.Shortest.{value-shortest}
 use Rattle.rules.specs.Answers.{Answer, refused, taken, _>>=_}
 use Rattle.rules.specs.declared.Scheme.{Scheme}
@@ -26,13 +27,13 @@ use Rattle.scheme.specs.Outlines.{Narrow}
 use Rattle.scheme.specs.Records.{refusal, readingOf}
 use Rattle.scheme.proofs.Widths.{parts-narrow}
 use Rattle.fields.specs.BitReaders.{LiesInCode, codeField}
-use Rattle.bank.specs.Reading.{Coded, shapeOf}
+use Rattle.bank.specs.Reading.{Coded, shapeOf, numericOf}
 use Rattle.bank.proofs.Sizes.{Inside, sizes, Roomy, roomy}
 use Rattle.bank.proofs.Stages.{coded-tag}
 use Rattle.bank.proofs.Numbers as Numbers
 use Rattle.bank.proofs.Parts.{start, answered, stringOf, small-reference}
 use Rattle.bank.proofs.Parts as Parts′
-use Rattle.bank.proofs.Records.{record-by, groupsIn, string-refused, made, record-made}
+use Rattle.bank.proofs.Records.{record-by, groupsIn, string-refused, numericAt, numeric-refused, made, record-made, numeric-made}
 
 -- what refuses with n is an answer that is refused with n
 pub refuses : {r : Reading} {n : ℕ} {a : Answer Tag} → r ≡ refusal n → a ≡ refused n → r ≡ readingOf a
@@ -83,15 +84,26 @@ module _ (b : List ℕ) (s : Scheme) (body : Body) (c : Coded b s (F body)) wher
         narrow : Narrow (F body)
         narrow = rw (c .parts) at (parts-narrow s)
 
-        string-tag : tagOfBank b ≡ (answered b body (stringOf b body) >>= λ ps. taken (record { scheme = s; parts = ps }))
-        string-tag = parts-tag b s (F body) c ∙ rw (small-reference b (long b s (F body) c) row small body (room (partitionIn b) row) narrow below)
+        -- the digits of the reference, and what is read once the string is
+        read-on : (ds : List ℕ) × (value 10 ds ≡ codeField b (start b) (shapeOf body (rowIn b) .cell .bits)) × (tagOfBank b ≡ (answered b body ds (stringOf b body) >>= λ ps. taken (record { scheme = s; parts = ps })))
+        read-on =
+            let (ds, v, e) = small-reference b (long b s (F body) c) row small body (room (partitionIn b) row) narrow below in
+            (ds, v, parts-tag b s (F body) c ∙ rw e)
 
         pub wrong-string : ¬ (shapeOf body (rowIn b) .groups ≡ 0) → 0 ≡ countOf (stringIn (groupsIn b (shapeOf body (rowIn b)))) → tagOfBank b ≡ refused 19
-        wrong-string h e = string-tag ∙ rw (string-refused b body h e)
+        wrong-string h e = read-on .2 ∙ rw (string-refused b body h e)
 
-        pub right-string : (n : ℕ) → n ≡ countOf (stringIn (groupsIn b (shapeOf body (rowIn b)))) → (¬ (n ≡ 0)) ⊎ (shapeOf body (rowIn b) .groups ≡ 0)
-            → readingOf (tagOfBank b) ≡ record { number = 0; tag = made b s small (shapeOf body (rowIn b)) n }
-        right-string n e o = ap readingOf string-tag ∙ record-made b s small body (c .parts) narrow (room (partitionIn b) row .groups) below n e o
+        pub right-string : shapeOf body (rowIn b) .most ≡ 0 → (n : ℕ) → n ≡ countOf (stringIn (groupsIn b (shapeOf body (rowIn b)))) → (¬ (n ≡ 0)) ⊎ (shapeOf body (rowIn b) .groups ≡ 0)
+            → let h = shapeOf body (rowIn b) in readingOf (tagOfBank b) ≡ record { number = 0; tag = made b s small (codeField b (start b) (h .cell .bits)) (codeField b (start b + h .cell .bits) (h .serial)) (groupsIn b h ++ replicate (20 - h .groups) 0) n }
+        right-string z n e o =
+            ap readingOf (read-on .2) ∙ record-made b s small body (c .parts) narrow (rw (c .parts) at (sizes s .digits)) z (room (partitionIn b) row .groups) (read-on .0) (read-on .1) n e o
+
+        pub wrong-numeric : ¬ (shapeOf body (rowIn b) .most ≡ 0) → numericOf (numericAt b (shapeOf body (rowIn b))) .count ≡ 0 → tagOfBank b ≡ refused 19
+        wrong-numeric h e = read-on .2 ∙ rw (numeric-refused b body h e)
+
+        pub right-numeric : ¬ (shapeOf body (rowIn b) .most ≡ 0) → ¬ (numericOf (numericAt b (shapeOf body (rowIn b))) .count ≡ 0)
+            → let h = shapeOf body (rowIn b) in let d = numericOf (numericAt b h) in readingOf (tagOfBank b) ≡ record { number = 0; tag = made b s small (codeField b (start b) (h .cell .bits)) (d .value) (replicate 20 0) (d .count) }
+        right-numeric h o = ap readingOf (read-on .2) ∙ numeric-made b s small body (c .parts) h (read-on .0) (read-on .1) o
 
 -- The three integers of gid-96.
 pub three-integers : (b : List ℕ) (s : Scheme) (x y z : ℕ) → Coded b s (Integers x y z)

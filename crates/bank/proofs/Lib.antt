@@ -1,5 +1,6 @@
 -- Laws: of reading, then of writing.
 mod Sizes
+mod Numerals
 mod Strings
 mod Groups
 mod Zeros
@@ -11,6 +12,7 @@ mod Answers
 mod Headers
 mod Prefixes
 mod Companies
+mod References
 mod RawTexts
 mod Rooms
 mod PackedRows

@@ -12,11 +12,11 @@ use Rattle.numeral.proofs.Values.{length-numeral}
 use Rattle.rules.specs.Answers.{Answer, refused, taken, _>>=_, _>>_, demand}
 use Rattle.rules.specs.declared.Body.{Body}
 use Rattle.rules.specs.declared.Parts.the-variants.{F}
-use Rattle.rules.specs.Schemes.{prefixBits, prefixDigits}
+use Rattle.rules.specs.Schemes.{atMost, prefixBits, prefixDigits}
 use Rattle.rules.specs.Grammar.{laid, bodyLayout}
 use Rattle.rules.specs.Coding.{wordCount, bankSize}
 use Rattle.rules.specs.Conditions.{partitionIn, rowIn}
-use Rattle.rules.specs.BankNumbers.{decimal, fieldsIn, codeIn}
+use Rattle.rules.specs.BankNumbers.{decimal, fieldIn, fieldsIn, codeIn}
 use Rattle.rules.proofs.BankReads.{code-seen}
 use Rattle.fields.specs.BitReaders.{codeField}
 
@@ -30,6 +30,9 @@ module _ (b : List ℕ) (long : bankSize (wordCount b) ≤ length b) where
   module _ (c w : ℕ) (inside : c + w ≤ 16 * wordCount b) where
     pub decimal-at : (m n : ℕ) → decimal m w n (drop c (codeIn b)) ≡ (demand (ltb (codeField b c w) (10 ^ n)) m >> taken (record { symbols = numeral 10 n (codeField b c w); rest = drop (c + w) (codeIn b) }))
     decimal-at m n = rw (code-seen b long c w inside, drop-drop w c (codeIn b))
+
+    pub at-most-at : (n : ℕ) → fieldIn (atMost w n) (drop c (codeIn b)) ≡ (demand (ltb (codeField b c w) (10 ^ n)) 18 >> taken (record { symbols = shortest 10 (codeField b c w); rest = drop (c + w) (codeIn b) }))
+    at-most-at n = rw (code-seen b long c w inside, drop-drop w c (codeIn b))
 
   -- The filter and the company prefix.
   module _ (body : Body) where

@@ -1,8 +1,9 @@
 -- The fields of a tag's record keep the limits of its scheme's parts, and their bits are those of the tag's parts.
 use Prim.Native.Nat.{ℕ, _+_, _-_, _*_, _/_, _^_, _≤_, _<_}
 use mathlib.Core.Path.{_≡_, refl, sym, ap, _∙_, subst⁻¹}
-use mathlib.Core.List.{List, _∷_, _++_, append-assoc}
+use mathlib.Core.List.{List, [], _∷_, _++_, append-assoc}
 use native.Mathlib.Omega.{arith}
+use native.Mathlib.Nat.{pow-le-pow-right, lt-of-lt-of-le}
 use lib.Dec.{leb, leb→le, ltb→lt, eqb→eq, lit<}
 use lib.ListN.{length, take, replicate, length-replicate, replicate-append-replicate}
 use lib.Seq.{take-at, take-take, take-append-add}
@@ -10,32 +11,52 @@ use Rattle.numeral.specs.Numeral.{value, Digits, spread}
 use Rattle.numeral.proofs.Values.{value-lt, digits-append, digits-take, digits-zeros}
 use Rattle.rules.specs.declared.Scheme.{Scheme}
 use Rattle.rules.specs.declared.Table.{Table}
-use Rattle.rules.specs.declared.Last.the-variants.{Integer, String}
+use Rattle.rules.specs.declared.Last.{Last}
+use Rattle.rules.specs.declared.Last.the-variants.{Integer, String, Numeric}
 use Rattle.rules.specs.declared.Body.{Body}
 use Rattle.rules.specs.declared.Body.the-variants.{Then, Zeros, E}
 use Rattle.rules.specs.declared.Parts.{Parts}
 use Rattle.rules.specs.declared.Parts.the-variants.{F, Integers}
-use Rattle.rules.specs.Schemes.{integer, string, rowDigits, assetBits, rowOf, cell, about, zeroBits}
-use Rattle.rules.specs.Grammar.{Fit, Fits, laid, layout, Tag}
-use Rattle.rules.specs.Coding.{filled, coded}
+use Rattle.rules.specs.Schemes.{digits, integer, string, atMost, numeric, counted, rowDigits, assetBits, lastForm, rowOf, about, zeroBits}
+use Rattle.rules.specs.Grammar.{plainNumber, Fit, Fits, laid, layout, Tag}
+use Rattle.rules.specs.Coding.{binary, filled, partBits, coded}
 use Rattle.rules.proofs.Tests.{both}
 use Rattle.rules.proofs.Decimals.{all-digits}
+use Rattle.rules.proofs.Rows.{by-count, by-row}
+use Rattle.rules.proofs.Numerics.{one-then, numeric-fits}
 use Rattle.rules.proofs.Fields.{characters-are, filled-is}
+use Rattle.rules.proofs.Codes.{RowSizes, PartSizes, content, sizes}
 use Rattle.scheme.specs.declared.record.Record.{Record}
 use Rattle.scheme.specs.Outlines.{Narrow}
 use Rattle.scheme.proofs.Widths.{parts-narrow}
-use Rattle.scheme.specs.Records.{recordOf, RecordIs, filterOf, prefixOf, digitsOf, referenceOf, serialOf, charactersOf, padded}
+use Rattle.scheme.specs.Records.{recordOf, RecordIs, filterOf, prefixOf, digitsOf, referenceOf, lastNumber, serialOf, lastCharacters, charactersOf, lastCount, countOf, padded}
 use Rattle.scheme.proofs.Shapes.{Partitioned, partitioned, reference-and-last, reference-alone, asset-alone, general}
-use Rattle.bank.specs.Writing.{Company, Reference, Asset, Number, Keeps, packed}
+use Rattle.bank.specs.Writing.{Company, Reference, Wide, Asset, Number, KeepsLast, lastBits, Keeps, packed}
 
 few-zeros-in : (p : Parts) → Narrow p → zeroBits p ≤ 24
 few-zeros-in (F (Then t l)) h = omega arith
-few-zeros-in (F (Zeros t n)) h = h
+few-zeros-in (F (Zeros t n)) h = h .0
 few-zeros-in (F E) h = omega arith
 few-zeros-in (Integers a b c) h = omega arith
 
 pub few-zeros : (s : Scheme) → zeroBits (about s .parts) ≤ 24
 few-zeros s = few-zeros-in (about s .parts) (parts-narrow s)
+
+-- A reference, of exactly or at most n digits.
+module _ (t : Table) (b n : ℕ) (x : List ℕ) where
+  reference-lt : Fit (counted t b n) x → value 10 x < 10 ^ n
+  reference-lt = by-count (λ f. Fit f x → value 10 x < 10 ^ n) t b n exactly at-most
+    where
+      exactly : Fit (digits b n) x → value 10 x < 10 ^ n
+      exactly h = rw (← eqb→eq (length x) n (h .shape)) (value-lt 10 x (all-digits x (h .symbols)))
+
+      at-most : Fit (atMost b n) x → value 10 x < 10 ^ n
+      at-most h =
+          let l : length x ≤ n = leb→le (length x) n (both (plainNumber x) (leb (length x) n) (h .shape) .1) in
+          lt-of-lt-of-le (value-lt 10 x (all-digits x (h .symbols))) (pow-le-pow-right (lit< tt) l)
+
+  reference-bits : partBits (counted t b n) x ≡ binary b (value 10 x)
+  reference-bits = by-count (λ f. partBits f x ≡ binary b (value 10 x)) t b n refl refl
 
 -- A filter and a company prefix, and a reference behind them: of table t, or of table E.
 module _ {body : Body} {ps : List (List ℕ)} (a : Partitioned body ps) where
@@ -57,7 +78,7 @@ module _ {body : Body} {ps : List (List ℕ)} (a : Partitioned body ps) where
   reference-of {t} {x} en h ex = record {
     least = rw en (six-to-twelve .0);
     most = rw en (six-to-twelve .1);
-    small = rw (en, ex, ← eqb→eq (length x) (cell t (rowOf (length (a .prefix))) .1) (h .shape)) (value-lt 10 x (all-digits x (h .symbols)));
+    small = rw (en, ex) (reference-lt t _ _ x h);
   }
 
   asset-of : {x : List ℕ} {r : Record} → r .digits ≡ length (a .prefix) → Fit (integer (assetBits (rowOf (length (a .prefix))))) x → r .serial ≡ value 10 x → Asset r
@@ -84,6 +105,17 @@ module _ (n : ℕ) (cs : List ℕ) (h : Fit (string n) cs) (l : (n ≡ 7 * (n / 
   string-groups : Digits 128 (padded cs)
   string-groups = digits-take 128 20 (cs ++ replicate 20 0) (digits-append 128 cs (replicate 20 0) (characters-are cs (h .symbols) .1) (digits-zeros 128 20 (lit< tt)))
 
+-- The digits of a numeric string, and the 1 before them.
+numeric-room : (t : Table) (n k w : ℕ) → PartSizes (F (Then t (Numeric n k))) w → 2 * 10 ^ k ≤ 2 ^ n
+numeric-room t n k w h = by-row (λ P r. RowSizes (Then t (Numeric n k)) w r) (h .1) 0 (lit< tt) .2 .1
+
+numeric-kept : (n k : ℕ) (ds : List ℕ) → Fit (numeric n k) ds → (32 ≤ n) × (n ≤ 62) × (k ≤ 17) → 2 * 10 ^ k ≤ 2 ^ n
+    → (length ds ≤ 17) × (value 10 ds < 10 ^ length ds) × Wide n (10 ^ length ds + value 10 ds)
+numeric-kept n k ds h l room =
+    let few : length ds ≤ k = leb→le (length ds) k (h .size) in
+    let d = all-digits ds (h .symbols) in
+    (omega arith, value-lt 10 ds d, record { least = l .0; most = l .1; small = rw (← one-then ds) (numeric-fits n k ds d few room) })
+
 -- The record of parts, and what is to be shown of it.
 abbrev recordWith : Scheme → Parts → List (List ℕ) → Record
 recordWith s p ps = record {
@@ -94,7 +126,7 @@ recordWith s p ps = record {
   reference = referenceOf p ps;
   serial = serialOf p ps;
   characters = padded (charactersOf p ps);
-  count = length (charactersOf p ps);
+  count = countOf p ps;
 }
 
 abbrev Packs : Scheme → Parts → List (List ℕ) → Type 0
@@ -103,32 +135,35 @@ Packs s p ps = Keeps p (recordWith s p ps) × (packed p (recordWith s p ps) ≡ 
 number : (n : ℕ) (ds : List ℕ) → n ≤ 57 → Fit (integer n) ds → Number n (value 10 ds)
 number n ds l h = record { narrow = l; small = ltb→lt (value 10 ds) (2 ^ n) (h .size) }
 
-packs : (s : Scheme) (p : Parts) (ps : List (List ℕ)) → Narrow p → Fits (laid p) ps → Packs s p ps
-packs s (F (Then t (Integer n))) ps l h =
-    let a = partitioned (Then t (Integer n)) h in
-    let (x, y, e, i, j) = reference-and-last t (Integer n) (length (a .prefix)) (a .rest-fits) in
-    subst⁻¹ (Packs s (F (Then t (Integer n)))) (a .parts ∙ ap (λ z. a .filter ∷ a .prefix ∷ z) e)
-    ((company-of a refl refl refl, (reference-of a refl i refl, number n y l j)), simp append-assoc)
-packs s (F (Then t (String n))) ps l h =
-    let a = partitioned (Then t (String n)) h in
-    let (x, y, e, i, j) = reference-and-last t (String n) (length (a .prefix)) (a .rest-fits) in
-    subst⁻¹ (Packs s (F (Then t (String n)))) (a .parts ∙ ap (λ z. a .filter ∷ a .prefix ∷ z) e)
-    ((company-of a refl refl refl, (reference-of a refl i refl, (string-groups n y j l, l .2))), rw (string-is n y j l) (simp append-assoc))
-packs s (F (Zeros t n)) ps l h =
+-- What follows a reference: the fields that the part y makes keep the limits, and have its bits.
+last-packs : (t : Table) (l : Last) (w : ℕ) (y : List ℕ) (r : Record) → r .serial ≡ lastNumber l y → r .characters ≡ padded (lastCharacters l y) → r .count ≡ lastCount l y
+    → Narrow (F (Then t l)) → PartSizes (F (Then t l)) w → Fit (lastForm l) y → KeepsLast l r × (lastBits l r ≡ partBits (lastForm l) y)
+last-packs t (Integer n) w y r es ec en l p h = rw es (number n y l h, refl)
+last-packs t (String n) w y r es ec en l p h = rw ec ((string-groups n y h l, l .2), string-is n y h l)
+last-packs t (Numeric n k) w y r es ec en l p h = rw (es, en) (numeric-kept n k y h l (numeric-room t n k w p), ap (binary n) (sym (one-then y)))
+
+packs : (s : Scheme) (p : Parts) (w : ℕ) (ps : List (List ℕ)) → Narrow p → PartSizes p w → Fits (laid p) ps → Packs s p ps
+packs s (F (Then t l)) w ps n z h =
+    let a = partitioned (Then t l) h in
+    let (x, y, e, i, j) = reference-and-last t l (length (a .prefix)) (a .rest-fits) in
+    let (k, bits) = last-packs t l w y (recordWith s (F (Then t l)) (a .filter ∷ a .prefix ∷ x ∷ y ∷ [])) refl refl refl n z j in
+    subst⁻¹ (Packs s (F (Then t l))) (a .parts ∙ ap (λ z. a .filter ∷ a .prefix ∷ z) e)
+    ((company-of a refl refl refl, (reference-of a refl i refl, k)), rw (bits, reference-bits t _ _ x) (simp append-assoc))
+packs s (F (Zeros t n)) w ps l z h =
     let a = partitioned (Zeros t n) h in
     let (x, e, i) = reference-alone t n (length (a .prefix)) (a .rest-fits) in
     subst⁻¹ (Packs s (F (Zeros t n))) (a .parts ∙ ap (λ z. a .filter ∷ a .prefix ∷ z) e)
-    ((company-of a refl refl refl, reference-of a refl i refl), simp append-assoc)
-packs s (F E) ps l h =
+    ((company-of a refl refl refl, reference-of a refl i refl), rw (reference-bits t _ _ x) (simp append-assoc))
+packs s (F E) w ps l z h =
     let a = partitioned E h in
     let (x, e, i) = asset-alone (length (a .prefix)) (a .rest-fits) in
     subst⁻¹ (Packs s (F E)) (a .parts ∙ ap (λ z. a .filter ∷ a .prefix ∷ z) e)
     ((company-of a refl refl refl, asset-of a refl i refl), simp append-assoc)
-packs s (Integers a b c) ps l h =
+packs s (Integers a b c) w ps l u h =
     let (x, y, z, e, i, j, k) = general a b c h in
     subst⁻¹ (Packs s (Integers a b c)) e ((number a x (l .0) i, number b y (l .1) j, number c z (l .2) k), refl)
 
 pub tag-packs : (r : Record) (τ : Tag) → RecordIs r τ
     → Keeps (about (τ .scheme) .parts) r × (packed (about (τ .scheme) .parts) r ≡ coded (layout (τ .scheme)) (τ .parts))
 unfolding recordOf
-tag-packs r τ h = let s = τ .scheme in rw (h .same) (packs s (about s .parts) (τ .parts) (parts-narrow s) (h .fits))
+tag-packs r τ h = let s = τ .scheme in rw (h .same) (packs s (about s .parts) (content s) (τ .parts) (parts-narrow s) (sizes s .parts) (h .fits))

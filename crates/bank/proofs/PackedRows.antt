@@ -9,13 +9,13 @@ use lib.Pow.{pow-add, pow-pos}
 use Rattle.numeral.specs.Numeral.{numeral}
 use Rattle.numeral.proofs.Values.{numeral-append, numeral-mod}
 use Rattle.rules.specs.declared.Table.{Table}
-use Rattle.rules.specs.declared.Table.the-variants.{A, B, C, D}
+use Rattle.rules.specs.declared.Table.the-variants.{A, B, C, D, Cpi}
 use Rattle.rules.specs.Schemes.{rows, rowOf, cell, assetBits, prefixBits, partition}
 use Rattle.rules.specs.Coding.{binary}
 use Rattle.rules.proofs.Rows.{AllRows, by-row, row-fair, row-picked}
 use Rattle.bits.proofs.Pushes.{join}
 use Rattle.scheme.specs.declared.record.Record.{Record}
-use Rattle.bank.specs.Writing.{Company, companyBits, Reference, Asset}
+use Rattle.bank.specs.Writing.{Company, companyBits, Reference, Wide, Asset}
 
 -- what is seen row by row: a reference's digits fit its bits, and E's has 32 low bits and a few more
 cells-roomy : (t : Table) → AllRows (λ P r. (10 ^ cell t r .1 ≤ 2 ^ cell t r .0) × (cell t r .0 ≤ 38)) 0 rows
@@ -24,6 +24,7 @@ cells-roomy A = omega arith
 cells-roomy B = omega arith
 cells-roomy C = omega arith
 cells-roomy D = omega arith
+cells-roomy Cpi = omega arith
 
 assets-wide : AllRows (λ P r. (32 ≤ assetBits r) × (assetBits r ≤ 62)) 0 rows
 unfolding rows
@@ -40,8 +41,8 @@ module _ (n : ℕ) (least : 6 ≤ n) (most : n ≤ 12) where
   cell-roomy : (t : Table) → (10 ^ cell t (rowOf n) .1 ≤ 2 ^ cell t (rowOf n) .0) × (cell t (rowOf n) .0 ≤ 38)
   cell-roomy t = by-row (λ P r. (10 ^ cell t r .1 ≤ 2 ^ cell t r .0) × (cell t r .0 ≤ 38)) (cells-roomy t) (partition n) row-lt
 
-  asset-wide : (32 ≤ assetBits (rowOf n)) × (assetBits (rowOf n) ≤ 62)
-  asset-wide = by-row (λ P r. (32 ≤ assetBits r) × (assetBits r ≤ 62)) assets-wide (partition n) row-lt
+  row-wide : (32 ≤ assetBits (rowOf n)) × (assetBits (rowOf n) ≤ 62)
+  row-wide = by-row (λ P r. (32 ≤ assetBits r) × (assetBits r ≤ 62)) assets-wide (partition n) row-lt
 
 -- The company prefix.
 module _ {r : Record} (h : Company r) where
@@ -58,7 +59,7 @@ module _ {r : Record} (h : Company r) where
   pub company-is : numeral 2 6 (r .filter * 8 + partition (r .digits)) ++ binary (prefixBits (rowOf (r .digits))) (r .prefix) ≡ companyBits r
   company-is = rw (← join 3 3 (r .filter) (partition (r .digits)) (omega (arith, company-row)), append-assoc)
 
--- The reference of A to D.
+-- The reference of A to D, and of cpi-96's table.
 module _ {t : Table} {r : Record} (h : Reference t r) where
   pub reference-row : partition (r .digits) < 7
   reference-row = row-lt (r .digits) (h .least) (h .most)
@@ -80,14 +81,12 @@ module _ (w n v : ℕ) (h : n ≤ w) where
   pub pieces-are : numeral 2 (w - n) (v / 2 ^ n) ++ numeral 2 n (v % 2 ^ n) ≡ numeral 2 w v
   pieces-are = rw (numeral-mod 2 n v (lit< tt), ← numeral-append 2 (w - n) n v, whole)
 
--- The reference of E, where its width w is known by an equation.
+-- The reference of E.
 module _ {r : Record} (h : Asset r) where
   pub asset-row : partition (r .digits) < 7
   asset-row = row-lt (r .digits) (h .least) (h .most)
 
-  module _ {w : ℕ} (e : w ≡ assetBits (rowOf (r .digits))) where
-    pub wide : (32 ≤ w) × (w ≤ 62)
-    wide = rw e (asset-wide (r .digits) (h .least) (h .most))
-
-    pub asset-lt : r .serial < 2 ^ w
-    asset-lt = rw e (h .small)
+  pub asset-wide : Wide (assetBits (rowOf (r .digits))) (r .serial)
+  asset-wide =
+      let (l, m) = row-wide (r .digits) (h .least) (h .most) in
+      record { least = l; most = m; small = h .small }

@@ -1,33 +1,36 @@
 -- The parts of a scheme with a partition table: refused by rule 18 or 19, or taken, in the numbers that stand at their code bits.
 use Prim.Native.Nat.{ℕ, _+_, _*_, _/_, _^_, _≤_, _<_}
-use mathlib.Core.Path.{_≡_, refl, ap, _∙_}
+use mathlib.Core.Path.{_≡_, refl, sym, ap, _∙_}
 use mathlib.Core.List.{List, [], _∷_}
 use native.Mathlib.Omega.{arith}
-use lib.Dec.{ltb}
+use lib.Dec.{ltb, lit<}
 use lib.ListN.{length, take, drop}
 use lib.Seq.{drop-drop}
 use borrow.Author.Tests.{lt-ltb, le-ltb}
-use Rattle.numeral.specs.Numeral.{numeral, shortest, spread, gather}
-use Rattle.numeral.proofs.Values.{value-nil}
+use Rattle.numeral.specs.Numeral.{value, numeral, shortest, spread, gather}
+use Rattle.numeral.proofs.Values.{value-nil, value-numeral-lt}
+use Rattle.numeral.proofs.Shortest.{value-shortest}
 use Rattle.rules.specs.Answers.{Answer, refused, taken, _>>=_, _>>_, demand}
 use Rattle.rules.specs.declared.Table.{Table}
-use Rattle.rules.specs.declared.Last.the-variants.{Integer, String}
+use Rattle.rules.specs.declared.Last.{Last}
+use Rattle.rules.specs.declared.Last.the-variants.{Integer, String, Numeric}
 use Rattle.rules.specs.declared.Body.{Body}
 use Rattle.rules.specs.declared.Body.the-variants.{Then, Zeros, E}
 use Rattle.rules.specs.declared.Parts.the-variants.{F}
-use Rattle.rules.specs.Schemes.{rowDigits, assetBits, cell, rowAt, rowOf, prefixBits, prefixDigits}
+use Rattle.rules.specs.Schemes.{Form, Row, rowDigits, assetBits, cell, rowAt, rowOf, prefixBits, prefixDigits}
 use Rattle.rules.specs.Grammar.{laid}
 use Rattle.rules.specs.Coding.{wordCount, bankSize}
 use Rattle.rules.specs.Conditions.{partitionIn, rowIn}
-use Rattle.rules.specs.BankNumbers.{field, fieldIn, fieldsIn, stringIn, codeIn}
-use Rattle.rules.proofs.Rows.{row-fair}
+use Rattle.rules.specs.BankNumbers.{field, fieldIn, fieldsIn, stringIn, numericIn, codeIn}
+use Rattle.rules.proofs.Rows.{by-count, row-fair}
 use Rattle.rules.proofs.CodeReads.{take-inside}
 use Rattle.rules.proofs.BankReads.{code-seen}
 use Rattle.scheme.specs.Outlines.{Narrow}
+use Rattle.scheme.specs.Rows.{referenceOf}
 use Rattle.fields.specs.BitReaders.{codeField}
 use Rattle.bank.specs.Reading.{prefixEnd, shapeOf, groupsAt}
 use Rattle.bank.proofs.Sizes.{Roomy}
-use Rattle.bank.proofs.Numbers.{decimal-at, small-prefix}
+use Rattle.bank.proofs.Numbers.{decimal-at, at-most-at, small-prefix}
 
 -- the groups of a string that begins at code bit c
 groups-seen : (b : List ℕ) (c n : ℕ) → n ≡ 7 * (n / 7) → c + n ≤ 16 * wordCount b → gather 2 7 (n / 7) (take n (drop c (codeIn b))) ≡ groupsAt b c (n / 7)
@@ -53,22 +56,33 @@ reference b t = codeField b (start b) (cell t (rowIn b) .0)
 abbrev pub behind : List ℕ → Table → ℕ
 behind b t = start b + cell t (rowIn b) .0
 
--- The parts behind the company prefix, where a string is the characters cs.
-abbrev pub shown : List ℕ → Body → List ℕ → List (List ℕ)
-shown b (Then t (Integer n)) cs = numeral 10 (cell t (rowIn b) .1) (reference b t) ∷ shortest 10 (codeField b (behind b t) n) ∷ []
-shown b (Then t (String n)) cs = numeral 10 (cell t (rowIn b) .1) (reference b t) ∷ cs ∷ []
-shown b (Zeros t n) cs = numeral 10 (cell t (rowIn b) .1) (reference b t) ∷ []
-shown b E cs = shortest 10 (codeField b (start b) (assetBits (rowIn b))) ∷ []
+-- All parts, where the reference is the digits ds, and a string the characters or digits cs.
+abbrev shown : List ℕ → Body → List ℕ → List ℕ → List (List ℕ)
+shown b (Then t (Integer n)) ds cs = ds ∷ shortest 10 (codeField b (behind b t) n) ∷ []
+shown b (Then t (String n)) ds cs = ds ∷ cs ∷ []
+shown b (Then t (Numeric n k)) ds cs = ds ∷ cs ∷ []
+shown b (Zeros t n) ds cs = ds ∷ []
+shown b E ds cs = shortest 10 (codeField b (start b) (assetBits (rowIn b))) ∷ []
+
+abbrev pub partsOf : List ℕ → Body → List ℕ → List ℕ → List (List ℕ)
+partsOf b body ds cs = shortest 10 (codeField b 8 3) ∷ numeral 10 (prefixDigits (rowIn b)) (codeField b 14 (prefixBits (rowIn b))) ∷ shown b body ds cs
 
 -- What is read of all parts, once the string is read.
-abbrev pub answered : List ℕ → Body → Answer (List ℕ) → Answer (List (List ℕ))
-answered b body a = a >>= λ cs. taken (shortest 10 (codeField b 8 3) ∷ numeral 10 (prefixDigits (rowIn b)) (codeField b 14 (prefixBits (rowIn b))) ∷ shown b body cs)
+abbrev pub answered : List ℕ → Body → List ℕ → Answer (List ℕ) → Answer (List (List ℕ))
+answered b body ds a = a >>= λ cs. taken (partsOf b body ds cs)
 
 abbrev pub stringOf : List ℕ → Body → Answer (List ℕ)
 stringOf b (Then t (Integer n)) = taken []
 stringOf b (Then t (String n)) = stringIn (groupsAt b (behind b t) (n / 7))
+stringOf b (Then t (Numeric n k)) = numericIn k (shortest 10 (codeField b (behind b t) n))
 stringOf b (Zeros t n) = taken []
 stringOf b E = taken []
+
+-- the cell of a reference, whatever follows it
+reference-cell : (t : Table) (l : Last) (r : Row) → shapeOf (Then t l) r .cell ≡ referenceOf t r
+reference-cell t (Integer n) r = refl
+reference-cell t (String n) r = refl
+reference-cell t (Numeric n k) r = refl
 
 module _ (b : List ℕ) (long : bankSize (wordCount b) ≤ length b) (row : partitionIn b < 7) (small : codeField b 14 (prefixBits (rowIn b)) < 10 ^ prefixDigits (rowIn b)) where
   -- the digits of the prefix pick the row
@@ -76,30 +90,57 @@ module _ (b : List ℕ) (long : bankSize (wordCount b) ≤ length b) (row : part
   picked = ap rowAt (row-fair (partitionIn b) row .picked)
 
   module _ (t : Table) (inside : behind b t ≤ 16 * wordCount b) where
-    cell-at : fieldIn (rowDigits t (rowOf (prefixDigits (rowIn b)))) (drop (start b) (codeIn b))
-        ≡ (demand (ltb (reference b t) (10 ^ cell t (rowIn b) .1)) 18 >> taken (record { symbols = numeral 10 (cell t (rowIn b) .1) (reference b t); rest = drop (behind b t) (codeIn b) }))
-    cell-at = rw picked (decimal-at b long (start b) (cell t (rowIn b) .0) inside 18 (cell t (rowIn b) .1))
+    -- the reference is read as digits ds of its value, as many as the row has or at most so many
+    abbrev ReadAs : List ℕ → Form → Type 0
+    ReadAs ds f =
+        (reference b t < 10 ^ cell t (rowIn b) .1 → value 10 ds ≡ reference b t)
+        × (fieldIn f (drop (start b) (codeIn b)) ≡ (demand (ltb (reference b t) (10 ^ cell t (rowIn b) .1)) 18 >> taken (record { symbols = ds; rest = drop (behind b t) (codeIn b) })))
+
+    cell-at : (ds : List ℕ) × ReadAs ds (rowDigits t (rowOf (prefixDigits (rowIn b))))
+    cell-at =
+        let v = reference b t in
+        let w = cell t (rowIn b) .0 in
+        let n = cell t (rowIn b) .1 in
+        rw picked
+        (by-count (λ f. (ds : List ℕ) × ReadAs ds f) t w n (numeral 10 n v, (value-numeral-lt 10 n v, decimal-at b long (start b) w inside 18 n)) (shortest 10 v, ((λ h. value-shortest 10 (lit< tt) v), at-most-at b long (start b) w inside n)))
 
     cell-large : 10 ^ cell t (rowIn b) .1 ≤ reference b t → fieldIn (rowDigits t (rowOf (prefixDigits (rowIn b)))) (drop (start b) (codeIn b)) ≡ refused 18
-    cell-large h = cell-at ∙ rw (le-ltb (reference b t) (10 ^ cell t (rowIn b) .1) h)
+    cell-large h = cell-at .1 .1 ∙ rw (le-ltb (reference b t) (10 ^ cell t (rowIn b) .1) h)
 
     cell-small : reference b t < 10 ^ cell t (rowIn b) .1
-        → fieldIn (rowDigits t (rowOf (prefixDigits (rowIn b)))) (drop (start b) (codeIn b)) ≡ taken (record { symbols = numeral 10 (cell t (rowIn b) .1) (reference b t); rest = drop (behind b t) (codeIn b) })
-    cell-small h = cell-at ∙ rw (lt-ltb (reference b t) (10 ^ cell t (rowIn b) .1) h)
+        → (ds : List ℕ) × (value 10 ds ≡ reference b t) × (fieldIn (rowDigits t (rowOf (prefixDigits (rowIn b)))) (drop (start b) (codeIn b)) ≡ taken (record { symbols = ds; rest = drop (behind b t) (codeIn b) }))
+    cell-small h = (cell-at .0, cell-at .1 .0 h, cell-at .1 .1 ∙ rw (lt-ltb (reference b t) (10 ^ cell t (rowIn b) .1) h))
 
   pub large-reference : (body : Body) → Roomy (wordCount b) (rowIn b) (shapeOf body (rowIn b))
       → 10 ^ shapeOf body (rowIn b) .cell .digits ≤ codeField b (start b) (shapeOf body (rowIn b) .cell .bits) → fieldsIn (laid (F body)) (drop 8 (codeIn b)) ≡ refused 18
-  large-reference (Then t (Integer n)) r h = small-prefix b long (Then t (Integer n)) (omega arith) (omega arith) small ∙ rw (cell-large t (omega arith) h)
-  large-reference (Then t (String n)) r h = small-prefix b long (Then t (String n)) (omega arith) (omega arith) small ∙ rw (cell-large t (omega arith) h)
+  large-reference (Then t l) r h =
+      let inside : behind b t ≤ 16 * wordCount b = omega (arith, r .inside, ap (λ k. k .bits) (reference-cell t l (rowIn b))) in
+      small-prefix b long (Then t l) (omega arith) (omega arith) small ∙ rw (cell-large t inside (rw (reference-cell t l (rowIn b)) at h))
   large-reference (Zeros t n) r h = small-prefix b long (Zeros t n) (omega arith) (omega arith) small ∙ rw (cell-large t (omega arith) h)
   large-reference E r h = absurd (omega (arith, no-bits b (start b)))
 
   pub small-reference : (body : Body) → Roomy (wordCount b) (rowIn b) (shapeOf body (rowIn b)) → Narrow (F body)
-      → codeField b (start b) (shapeOf body (rowIn b) .cell .bits) < 10 ^ shapeOf body (rowIn b) .cell .digits → fieldsIn (laid (F body)) (drop 8 (codeIn b)) ≡ answered b body (stringOf b body)
+      → codeField b (start b) (shapeOf body (rowIn b) .cell .bits) < 10 ^ shapeOf body (rowIn b) .cell .digits
+      → (ds : List ℕ) × (value 10 ds ≡ codeField b (start b) (shapeOf body (rowIn b) .cell .bits)) × (fieldsIn (laid (F body)) (drop 8 (codeIn b)) ≡ answered b body ds (stringOf b body))
   small-reference (Then t (Integer n)) r w h =
-      small-prefix b long (Then t (Integer n)) (omega arith) (omega arith) small ∙ rw (cell-small t (omega arith) h, ← code-seen b long (behind b t) n (omega arith))
+      let (ds, v, e) = cell-small t (omega arith) h in
+      (ds, v, small-prefix b long (Then t (Integer n)) (omega arith) (omega arith) small ∙ rw (e, ← code-seen b long (behind b t) n (omega arith)))
   small-reference (Then t (String n)) r w h =
-      small-prefix b long (Then t (String n)) (omega arith) (omega arith) small
-      ∙ rw (cell-small t (omega arith) h, groups-seen b (behind b t) n (w .0) (omega arith)) (at-last _ _ _ n (drop (behind b t) (codeIn b)) (stringIn (groupsAt b (behind b t) (n / 7))))
-  small-reference (Zeros t n) r w h = small-prefix b long (Zeros t n) (omega arith) (omega arith) small ∙ rw (cell-small t (omega arith) h)
-  small-reference E r w h = small-prefix b long E (omega arith) (omega arith) small ∙ rw (picked, ← code-seen b long (start b) (assetBits (rowIn b)) (omega arith))
+      let (ds, v, e) = cell-small t (omega arith) h in (
+        ds,
+        v,
+        small-prefix b long (Then t (String n)) (omega arith) (omega arith) small
+            ∙ rw (e, groups-seen b (behind b t) n (w .0) (omega arith)) (at-last _ _ _ n (drop (behind b t) (codeIn b)) (stringIn (groupsAt b (behind b t) (n / 7)))),
+      )
+  small-reference (Then t (Numeric n k)) r w h =
+      let (ds, v, e) = cell-small t (omega arith) h in (
+        ds,
+        v,
+        small-prefix b long (Then t (Numeric n k)) (omega arith) (omega arith) small
+            ∙ rw (e, ← code-seen b long (behind b t) n (omega arith)) (at-last _ _ _ n (drop (behind b t) (codeIn b)) (numericIn k (shortest 10 (codeField b (behind b t) n)))),
+      )
+  small-reference (Zeros t n) r w h =
+      let (ds, v, e) = cell-small t (omega arith) h in
+      (ds, v, small-prefix b long (Zeros t n) (omega arith) (omega arith) small ∙ rw e)
+  small-reference E r w h =
+      ([], value-nil 10 ∙ sym (no-bits b (start b)), small-prefix b long E (omega arith) (omega arith) small ∙ rw (picked, ← code-seen b long (start b) (assetBits (rowIn b)) (omega arith)))

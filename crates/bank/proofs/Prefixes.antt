@@ -29,8 +29,8 @@ module _ (b : List ℕ) (s : Scheme) (body : Body) (c : Coded b s (F body)) (P :
     listed = omega (arith, at-lt b 0x2B 3)
 
     module _ (k : Cell) (ek : k ≡ prefixOf (rowAt P)) where
-      pub few-digits : k .digits ≤ 12
-      few-digits = rw ek (row-fair P listed .most)
+      pub few-digits : k .digits ≤ 17
+      few-digits = rw ek (omega (arith, row-fair P listed .most))
 
       pub prefix-lies : LiesInCode 14 (k .bits) (length b)
       prefix-lies =

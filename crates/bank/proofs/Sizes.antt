@@ -3,10 +3,12 @@ use Prim.Native.Nat.{ℕ, _+_, _-_, _*_, _≤_, _<_}
 use mathlib.Core.Path.{_≡_}
 use native.Mathlib.Omega.{arith}
 use Rattle.rules.specs.declared.Scheme.{Scheme}
-use Rattle.rules.specs.declared.Scheme.the-variants.{Sgtin96, Sgtin198, Sscc96, Sgln96, Sgln195, Grai96, Grai170, Giai96, Gsrn96, Gsrnp96, Gdti96, Gdti174, Gid96}
+use Rattle.rules.specs.declared.Scheme.the-variants.{Sgtin96, Sgtin198, Sscc96, Sgln96, Sgln195, Grai96, Grai170, Giai96, Gsrn96, Gsrnp96, Gdti96, Gdti174, Gid96, Gdti113, Sgcn96, Cpi96}
 use Rattle.rules.specs.Schemes.{Row, rows, rowAt, about, words, prefixBits}
 use Rattle.rules.proofs.Rows.{AllRows, by-row}
+use Rattle.rules.specs.declared.Last.the-variants.{Integer, String, Numeric}
 use Rattle.rules.specs.declared.Body.{Body}
+use Rattle.rules.specs.declared.Body.the-variants.{Then, Zeros, E}
 use Rattle.rules.specs.declared.Parts.{Parts}
 use Rattle.rules.specs.declared.Parts.the-variants.{F, Integers}
 use Rattle.bank.specs.declared.reading.Shape.{Shape}
@@ -15,9 +17,10 @@ use Rattle.bank.specs.Reading.{endOf, shapeOf}
 -- what stands behind the company prefix of a row, in W words
 pub record Roomy (W : ℕ) (r : Row) (s : Shape) : Type 0 where
   pub narrow : s .cell .bits ≤ 64
-  pub digits : s .cell .digits ≤ 12
+  pub digits : s .cell .digits ≤ 17
   pub serial : s .serial ≤ 64
   pub groups : s .groups ≤ 20
+  pub most : s .most ≤ 17
   pub inside : 14 + prefixBits r + s .cell .bits + s .serial + 7 * s .groups ≤ 16 * W
 
 -- the parts lie in W words, whatever the row
@@ -25,10 +28,20 @@ abbrev pub Inside : ℕ → Parts → Type 0
 Inside W (F body) = AllRows (λ P r. Roomy W r (shapeOf body r)) 0 rows
 Inside W (Integers a b c) = 8 + a + b + c ≤ 16 * W
 
+-- a numeric string may have a digit
+abbrev pub SomeDigits : Parts → Type 0
+SomeDigits (F (Then t (Integer n))) = Unit
+SomeDigits (F (Then t (String n))) = Unit
+SomeDigits (F (Then t (Numeric n k))) = 0 < k
+SomeDigits (F (Zeros t n)) = Unit
+SomeDigits (F E) = Unit
+SomeDigits (Integers a b c) = Unit
+
 -- what is seen scheme by scheme: the zeros behind the parts are a word at most, and so is each field
 pub record Sizes (s : Scheme) : Type 0 where
   pub zeros : 16 * words s - endOf s ≤ 64
   pub inside : Inside (words s) (about s .parts)
+  pub digits : SomeDigits (about s .parts)
 
 pub sizes : (s : Scheme) → Sizes s
 unfolding rows
@@ -45,6 +58,9 @@ sizes Gsrnp96 = omega arith
 sizes Gdti96 = omega arith
 sizes Gdti174 = omega arith
 sizes Gid96 = omega arith
+sizes Gdti113 = omega arith
+sizes Sgcn96 = omega arith
+sizes Cpi96 = omega arith
 
 -- a scheme with a partition table
 pub roomy : (s : Scheme) (body : Body) → about s .parts ≡ F body → (P : ℕ) → P < 7 → Roomy (words s) (rowAt P) (shapeOf body (rowAt P))

@@ -3,15 +3,15 @@ use Prim.Native.Nat.{ℕ, _+_, _-_, _*_, _/_, _^_, _<_, _≤_}
 use mathlib.Core.Path.{_≡_}
 use mathlib.Core.List.{List}
 use mathlib.Core.Option.{some}
-use lib.ListN.{take, drop}
-use Rattle.numeral.specs.Numeral.{spread, gather}
+use lib.ListN.{length, take, drop}
+use Rattle.numeral.specs.Numeral.{value, spread, gather}
 use Rattle.rules.specs.declared.Scheme.{Scheme}
-use Rattle.rules.specs.declared.Last.the-variants.{Integer, String}
+use Rattle.rules.specs.declared.Last.the-variants.{Integer, String, Numeric}
 use Rattle.rules.specs.declared.Body.{Body}
 use Rattle.rules.specs.declared.Body.the-variants.{Then, Zeros, E}
 use Rattle.rules.specs.declared.Parts.{Parts}
 use Rattle.rules.specs.declared.Parts.the-variants.{F}
-use Rattle.rules.specs.Answers.{taken}
+use Rattle.rules.specs.Answers.{Answer, refused, taken}
 use Rattle.rules.specs.Schemes.{Row, schemes, about, words, zeroBits, prefixBits, prefixDigits, assetBits}
 use Rattle.rules.specs.Coding.{at}
 use Rattle.rules.specs.BankNumbers.{headed, controlIn}
@@ -19,6 +19,7 @@ use Rattle.rules.specs.Conditions.{partitionIn, rowIn}
 use Rattle.scheme.specs.declared.rows.Cell.{Cell}
 use Rattle.scheme.specs.Rows.{referenceOf}
 use Rattle.fields.specs.BitReaders.{codeField}
+use Rattle.bank.specs.declared.numerics.Digits.{Digits}
 use Rattle.bank.specs.declared.reading.Company.{Company}
 use Rattle.bank.specs.declared.reading.Shape.{Shape}
 
@@ -60,12 +61,29 @@ pub record Begun (b : List ℕ) (s : Scheme) (body : Body) (c : Company) : Type 
 abbrev pub noCell : Cell
 noCell = record { bits = 0; digits = 0 }
 
--- the bits behind the company prefix of a row: the reference, an integer, the groups of a string; what is no part takes none
+-- the bits behind the company prefix of a row: the reference, an integer, the groups of a string; what is no part takes none;
+-- the most digits of an integer that is a numeric string, 0 for any other
 abbrev pub shapeOf : Body → Row → Shape
-shapeOf (Then t (Integer n)) r = record { cell = referenceOf t r; serial = n; groups = 0 }
-shapeOf (Then t (String n)) r = record { cell = referenceOf t r; serial = 0; groups = n / 7 }
-shapeOf (Zeros t n) r = record { cell = referenceOf t r; serial = 0; groups = 0 }
-shapeOf E r = record { cell = noCell; serial = assetBits r; groups = 0 }
+shapeOf (Then t (Integer n)) r = record { cell = referenceOf t r; serial = n; groups = 0; most = 0 }
+shapeOf (Then t (String n)) r = record { cell = referenceOf t r; serial = 0; groups = n / 7; most = 0 }
+shapeOf (Then t (Numeric n k)) r = record { cell = referenceOf t r; serial = n; groups = 0; most = k }
+shapeOf (Zeros t n) r = record { cell = referenceOf t r; serial = 0; groups = 0; most = 0 }
+shapeOf E r = record { cell = noCell; serial = assetBits r; groups = 0; most = 0 }
+
+-- nor does rule 18: behind the prefix stands the reference v, with no more than its digits
+pub record Referred (b : List ℕ) (s : Scheme) (body : Body) (c : Company) (h : Shape) (v : ℕ) : Type 0 where
+  pub begun : Begun b s body c
+  pub shape : h ≡ shapeOf body (rowIn b)
+  pub reference : v ≡ codeField b (prefixEnd b) (h .cell .bits)
+  pub small : v < 10 ^ h .cell .digits
+
+abbrev pub referenceEnd : List ℕ → Shape → ℕ
+referenceEnd b h = prefixEnd b + h .cell .bits
+
+-- the digits of a numeric string as the code holds them
+abbrev pub numericOf : Answer (List ℕ) → Digits
+numericOf (refused n) = record { value = 0; count = 0 }
+numericOf (taken ds) = record { value = value 10 ds; count = length ds }
 
 -- k groups of seven bits, from a code bit on
 abbrev pub groupsAt : List ℕ → ℕ → ℕ → List ℕ

@@ -5,7 +5,7 @@ use lib.ListN.{take, replicate}
 use Rattle.numeral.specs.Numeral.{Digits, spread}
 use Rattle.rules.specs.declared.Table.{Table}
 use Rattle.rules.specs.declared.Last.{Last}
-use Rattle.rules.specs.declared.Last.the-variants.{Integer, String}
+use Rattle.rules.specs.declared.Last.the-variants.{Integer, String, Numeric}
 use Rattle.rules.specs.declared.Body.{Body}
 use Rattle.rules.specs.declared.Body.the-variants.{Then, Zeros, E}
 use Rattle.rules.specs.declared.Parts.{Parts}
@@ -45,6 +45,12 @@ pub record Reference (t : Table) (r : Record) : Type 0 where
 abbrev pub referenceBits : Table → Record → List ℕ
 referenceBits t r = binary (cell t (rowOf (r .digits)) .0) (r .reference)
 
+-- v is a number of n bits, enough to go in two pieces
+pub record Wide (n v : ℕ) : Type 0 where
+  pub least : 32 ≤ n
+  pub most : n ≤ 62
+  pub small : v < 2 ^ n
+
 -- the reference of table E has the row's bits
 pub record Asset (r : Record) : Type 0 where
   pub least : 6 ≤ r .digits
@@ -59,14 +65,16 @@ pub record Number (n v : ℕ) : Type 0 where
   pub narrow : n ≤ 57
   pub small : v < 2 ^ n
 
--- an integer, or a string of at most twenty characters; zeros stand behind these
+-- an integer; a string of at most twenty characters, behind which zeros stand; the digits of a numeric string, and the 1 before them
 abbrev pub KeepsLast : Last → Record → Type 0
 KeepsLast (Integer n) r = Number n (r .serial)
 KeepsLast (String n) r = Digits 128 (r .characters) × (n / 7 ≤ 20)
+KeepsLast (Numeric n k) r = (r .count ≤ 17) × (r .serial < 10 ^ r .count) × Wide n (10 ^ r .count + r .serial)
 
 abbrev pub lastBits : Last → Record → List ℕ
 lastBits (Integer n) r = binary n (r .serial)
 lastBits (String n) r = spread 2 7 (take (n / 7) (r .characters))
+lastBits (Numeric n k) r = binary n (10 ^ r .count + r .serial)
 
 -- what follows the company prefix; the zero bits at the end of a code are no field
 abbrev pub KeepsBehind : Body → Record → Type 0

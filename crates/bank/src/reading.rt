@@ -1,6 +1,8 @@
 // A bank to the record of its tag: the rules 9 to 19, in their order (document 01, "Numbers given, and when"). Each function goes on where
 // the one before it stopped, and returns the whole bank's result.
 use super::eights;
+use super::numerics::behind_one;
+use super::powers::power;
 use fields::bitreader::take;
 use fields::control;
 use rules::Body;
@@ -19,36 +21,14 @@ use scheme::refusal;
 use scheme::rows;
 use scheme::rows::Cell;
 ghost use mathlib.Core.Path.{_≡_};
-ghost use Prim.Native.Nat.{_-_, _^_, _≤_, _<_};
+ghost use Prim.Native.Nat.{_-_, _<_};
 ghost use mathlib.Core.List.{_++_};
 ghost use lib.ListN.{length, replicate};
 ghost use Rattle.rules.specs.Schemes.{zeroBits, rowAt};
 ghost use Rattle.rules.specs.Answers.{taken};
 ghost use Rattle.rules.specs.BankNumbers.{controlIn, tagOfBank};
 ghost use Rattle.scheme.specs.Records.{readingOf};
-ghost use Rattle.bank.specs.Reading.{Coded, Begun, headerEnd, prefixEnd, shapeOf, groupsAt, GroupsLie};
-
-// Ten to the power of a number of digits.
-fn power(digits: usize) -> u64
-    requires { ⌜ digits ≤ 12 ⌝ }
-    ensures { λ r. ⌜ r ≡ 10 ^ digits ⌝ }
-{
-    match digits {
-        0 => 1,
-        1 => 10,
-        2 => 100,
-        3 => 1000,
-        4 => 10000,
-        5 => 100000,
-        6 => 1000000,
-        7 => 10000000,
-        8 => 100000000,
-        9 => 1000000000,
-        10 => 10000000000,
-        11 => 100000000000,
-        _ => 1000000000000,
-    }
-}
+ghost use Rattle.bank.specs.Reading.{Coded, Begun, Referred, headerEnd, prefixEnd, referenceEnd, shapeOf, groupsAt, GroupsLie};
 
 // The zero bits at the end of the code.
 fn zeros(p: Parts) -> usize
@@ -65,11 +45,12 @@ fn zeros(p: Parts) -> usize
 }
 
 // What stands behind the company prefix: the bits and digits of the reference, the bits of an integer, the groups of a string. What a scheme
-// does not have takes no bits.
+// does not have takes no bits. A numeric string is an integer too, and `most` is how many digits it may have, 0 for any other.
 struct Shape {
     cell: Cell,
     serial: usize,
     groups: usize,
+    most: usize,
 }
 
 fn shape_in(body: Body, row: usize) -> Shape
@@ -82,22 +63,32 @@ fn shape_in(body: Body, row: usize) -> Shape
                 cell: rows::reference(t, row),
                 serial: n,
                 groups: 0,
+                most: 0,
             },
             Last::String(n) => Shape {
                 cell: rows::reference(t, row),
                 serial: 0,
                 groups: n / 7,
+                most: 0,
+            },
+            Last::Numeric(n, k) => Shape {
+                cell: rows::reference(t, row),
+                serial: n,
+                groups: 0,
+                most: k,
             },
         },
         Body::Zeros(t, _) => Shape {
             cell: rows::reference(t, row),
             serial: 0,
             groups: 0,
+            most: 0,
         },
         Body::E => Shape {
             cell: Cell { bits: 0, digits: 0 },
             serial: rows::asset(row),
             groups: 0,
+            most: 0,
         },
     }
 }
@@ -151,6 +142,38 @@ struct Company {
     prefix: u64,
 }
 
+// What follows the reference, where it is a numeric string: rule 19.
+fn numeric_behind(
+    bank: &[u8],
+    at: CodeBit,
+    s: Scheme,
+    body: Body,
+    company: Company,
+    shape: Shape,
+    reference: u64,
+) -> Reading
+    requires { ⌜ Referred (now bank) s body company shape reference × (at .0 ≡ referenceEnd (now bank) shape) × (¬ (shape .most ≡ 0)) ⌝ }
+    ensures { λ r. ⌜ r ≡ readingOf (tagOfBank (now (bank .entry))) ⌝ }
+{
+    let digits = behind_one(take(bank, at, shape.serial).value, shape.most);
+    if digits.count == 0 {
+        return refused(refusal::STRING);
+    }
+    Reading {
+        number: 0,
+        tag: Record {
+            scheme: s,
+            filter: company.filter,
+            prefix: company.prefix,
+            digits: company.digits,
+            reference,
+            serial: digits.value,
+            characters: [0; MOST_CHARACTERS],
+            count: digits.count,
+        },
+    }
+}
+
 // What follows the company prefix: rules 18 and 19.
 fn behind_prefix(bank: &[u8], at: CodeBit, s: Scheme, body: Body, company: Company) -> Reading
     requires { ⌜ Begun (now bank) s body company × (at .0 ≡ prefixEnd (now bank)) ⌝ }
@@ -160,6 +183,9 @@ fn behind_prefix(bank: &[u8], at: CodeBit, s: Scheme, body: Body, company: Compa
     let reference = take(bank, at, shape.cell.bits);
     if power(shape.cell.digits) <= reference.value {
         return refused(refusal::REFERENCE_TOO_LARGE);
+    }
+    if shape.most != 0 {
+        return numeric_behind(bank, reference.at, s, body, company, shape, reference.value);
     }
     let characters = groups(bank, reference.at, shape.groups);
     let count = alphabet::count(&characters, shape.groups);

@@ -1,6 +1,7 @@
 // The bank of a tag, written from its record (document 01, "The bank"): one stream of bits, in order. Each `put_` function takes the
 // stream, adds its bits, and returns the stream behind them.
 use super::eights;
+use super::numerics::with_one;
 use bits::Stream;
 use fields::control::size;
 use rules::Body;
@@ -18,9 +19,9 @@ ghost use lib.ListN.{length, take};
 ghost use Rattle.numeral.specs.Numeral.{Digits, spread};
 ghost use Rattle.bits.specs.Streams.{waiting, Streamed};
 ghost use Rattle.rules.specs.Calls.{bankRoom};
-ghost use Rattle.rules.specs.Coding.{bankOf};
+ghost use Rattle.rules.specs.Coding.{binary, bankOf};
 ghost use Rattle.scheme.specs.Records.{HasTag, Writes};
-ghost use Rattle.bank.specs.Writing.{Room, startBits, Company, companyBits, Reference, referenceBits, Asset, assetNumber, KeepsLast, lastBits, Keeps, packed};
+ghost use Rattle.bank.specs.Writing.{Room, startBits, Company, companyBits, Reference, referenceBits, Wide, Asset, assetNumber, KeepsLast, lastBits, Keeps, packed};
 
 // The filter, the partition value and the company prefix: 3 bits, 3, and 40 at most.
 fn put_company(out: &mut [u8], s: Stream, tag: Record) -> Stream
@@ -33,7 +34,7 @@ fn put_company(out: &mut [u8], s: Stream, tag: Record) -> Stream
     bits::push(out, six, cell.bits, tag.prefix)
 }
 
-// The reference of one of the tables A to D: 38 bits at most.
+// The reference of one of the tables A to D, or of cpi-96's own: 38 bits at most.
 fn put_reference(out: &mut [u8], s: Stream, t: Table, tag: Record) -> Stream
     requires { ⌜ Room s 38 (length (now out)) × Reference t tag ⌝ }
     ensures { λ r. ⌜ Streamed (now (out .entry)) (s .at) (waiting s ++ referenceBits t tag) (now (out .exit)) r ⌝ }
@@ -42,14 +43,22 @@ fn put_reference(out: &mut [u8], s: Stream, t: Table, tag: Record) -> Stream
     bits::push(out, s, cell.bits, tag.reference)
 }
 
-// The reference of table E. It has 42 to 62 bits, more than a stream takes at once, so its 32 low bits go by themselves.
+// A number of 32 to 62 bits, more than a stream takes at once: its 32 low bits go by themselves.
+fn put_wide(out: &mut [u8], s: Stream, width: usize, v: u64) -> Stream
+    requires { ⌜ Room s 62 (length (now out)) × Wide width v ⌝ }
+    ensures { λ r. ⌜ Streamed (now (out .entry)) (s .at) (waiting s ++ binary width v) (now (out .exit)) r ⌝ }
+{
+    let high = bits::push(out, s, width - 32, v >> 32);
+    bits::push(out, high, 32, v % 0x100000000)
+}
+
+// The reference of table E: 42 to 62 bits.
 fn put_asset(out: &mut [u8], s: Stream, tag: Record) -> Stream
     requires { ⌜ Room s 62 (length (now out)) × Asset tag ⌝ }
     ensures { λ r. ⌜ Streamed (now (out .entry)) (s .at) (waiting s ++ assetNumber tag) (now (out .exit)) r ⌝ }
 {
     let width = rows::asset(rows::by_digits(tag.digits));
-    let high = bits::push(out, s, width - 32, tag.serial >> 32);
-    bits::push(out, high, 32, tag.serial % 0x100000000)
+    put_wide(out, s, width, tag.serial)
 }
 
 // Three integers of a, b and c bits, each 57 at most: as many as a stream takes at once.
@@ -77,7 +86,7 @@ fn put_string(out: &mut [u8], s: Stream, characters: [u8; MOST_CHARACTERS], k: u
     end
 }
 
-// What follows a reference: an integer or a string.
+// What follows a reference: an integer, a string or a numeric string.
 fn put_last(out: &mut [u8], s: Stream, last: Last, tag: Record) -> Stream
     requires { ⌜ Room s 140 (length (now out)) × KeepsLast last tag ⌝ }
     ensures { λ r. ⌜ Streamed (now (out .entry)) (s .at) (waiting s ++ lastBits last tag) (now (out .exit)) r ⌝ }
@@ -88,6 +97,7 @@ fn put_last(out: &mut [u8], s: Stream, last: Last, tag: Record) -> Stream
             let characters = tag.characters;
             put_string(out, s, characters, n / 7)
         }
+        Last::Numeric(n, _) => put_wide(out, s, n, with_one(tag.serial, tag.count)),
     }
 }
 

@@ -9,12 +9,12 @@ use native.Mathlib.Omega.{arith}
 use native.Mathlib.Nat.{pow-le-pow-right}
 use lib.Dec.{eqb, ltb, lit<}
 use lib.ListN.{length, drop, getD, length-append, length-drop}
-use borrow.Author.Tests.{eq-eqb, ne-eqb, lt-ltb, le-ltb}
+use borrow.Author.Tests.{eq-eqb, ne-eqb, lt-ltb, le-ltb, le-leb, lt-leb}
 use Rattle.numeral.specs.Numeral.{value}
 use Rattle.numeral.proofs.Arithmetic.{lt-or-ge}
 use Rattle.rules.specs.Answers.{refused, taken, given, demand, _>>=_, _>>_}
 use Rattle.rules.specs.Bytes.{all}
-use Rattle.rules.specs.Schemes.{digits, integer}
+use Rattle.rules.specs.Schemes.{digits, integer, numeric}
 use Rattle.rules.specs.Grammar.{plainNumber, shaped, sized}
 use Rattle.rules.specs.TextNumbers.{isDigit, digitsIn, kept, lastIn}
 use Rattle.digits.specs.Digits.{leadingDigits}
@@ -143,3 +143,31 @@ module _ (text : List ℕ) (at end v : ℕ) (place : end ≡ at + length (leadin
         let D = leadingDigits 19 (drop at text) in
         let n : end - at ≡ length D = omega arith in
         rw (first-byte text at, zero-of D (drop (length D) (drop at text)) (omega arith), n, is) (integer-sized b (drop at text) D (whole l))
+
+  -- a last part that is a numeric string of at most n digits
+  module _ (n : ℕ) where
+    pub numeric-behind : n ≤ 19 → end < length text → longerOf (all isDigit (drop end text)) false ≡ endOf (lastIn 7 (numeric 0 n) (drop at text))
+    numeric-behind few l = go (all isDigit (drop end text)) refl
+      where
+        go : (t : Bool) → all isDigit (drop end text) ≡ t → longerOf t false ≡ endOf (lastIn 7 (numeric 0 n) (drop at text))
+        go false h = rw (not-digits h)
+        go true h =
+            let (es, q, k, m) = more-digits l h in
+            let ds = leadingDigits 19 (drop at text) ++ es in
+            let many : 19 < length ds = omega (arith, length-append (leadingDigits 19 (drop at text)) es) in
+            rw (q, lt-ltb 0 (length ds) (omega arith), lt-leb (length ds) n (omega arith))
+
+    pub numeric-none : length text ≤ end → end ≡ at → Refused 7 ≡ endOf (lastIn 7 (numeric 0 n) (drop at text))
+    numeric-none l e =
+        let D = leadingDigits 19 (drop at text) in
+        rw (whole l, le-ltb 0 (length D) (omega arith))
+
+    pub numeric-long : length text ≤ end → n < end - at → Refused 8 ≡ endOf (lastIn 7 (numeric 0 n) (drop at text))
+    numeric-long l m =
+        let D = leadingDigits 19 (drop at text) in
+        rw (whole l, lt-ltb 0 (length D) (omega arith), lt-leb (length D) n (omega arith))
+
+    pub numeric-end : length text ≤ end → ¬ (end ≡ at) → end - at ≤ n → Is v ≡ endOf (lastIn 7 (numeric 0 n) (drop at text))
+    numeric-end l s m =
+        let D = leadingDigits 19 (drop at text) in
+        rw (whole l, lt-ltb 0 (length D) (omega arith), le-leb (length D) n (omega arith)) (ap Is is)

@@ -6,7 +6,7 @@ use mathlib.Core.Bool.{Bool, true, false, _&&_, not}
 use mathlib.Core.List.{List, [], _∷_}
 use native.Mathlib.Omega.{arith}
 use native.Mathlib.Nat.{pow-le-pow-right, div-lt-iff-lt-mul, one-le-pow, one-mul}
-use lib.Dec.{ltb, eqb, lit<}
+use lib.Dec.{leb, ltb, eqb, lit<}
 use lib.ListN.{length}
 use borrow.Author.Tests.{lt-ltb, le-ltb, le-leb, lt-leb, eq-eqb, ne-eqb}
 use Rattle.numeral.specs.Numeral.{value}
@@ -16,7 +16,7 @@ use Rattle.rules.specs.Grammar.{plainNumber, shaped, sized}
 use Rattle.digits.proofs.Parts.{long-value}
 use Rattle.parts.specs.Parts.{formOf, Short, plainly, fitting}
 use Rattle.parts.specs.declared.parts.Form.{Form}
-use Rattle.parts.specs.declared.parts.Form.the-variants.{Prefix, Digits, Integer}
+use Rattle.parts.specs.declared.parts.Form.the-variants.{Prefix, Digits, Integer, AtMost}
 
 -- a value below 2 ^ b has nothing above its b bits
 pub small : (v b : ℕ) → eqb (v / 2 ^ b) 0 ≡ ltb v (2 ^ b)
@@ -54,11 +54,17 @@ pub fitting-is : (f : Form) (ds : List ℕ) → fitting (formOf f) (length ds) (
 fitting-is Prefix ds = and-true (shaped company ds)
 fitting-is (Digits n) ds = and-true (eqb (length ds) n)
 fitting-is (Integer b) ds = rw (plainly-is ds)
+fitting-is (AtMost n) ds = rw (plainly-is ds) (and-true (plainly (length ds) (zeroFirst ds) && leb (length ds) n))
 
 -- more than nineteen digits are in no form, or too large
 pub too-many : (f : Form) → Short f → (ds : List ℕ) → 19 < length ds → (shaped (formOf f) ds && sized (formOf f) ds) ≡ false
 too-many Prefix s ds l = rw (le-leb 6 (length ds) (omega arith), lt-leb (length ds) 12 (omega arith))
 too-many (Digits n) s ds l = rw (ne-eqb (length ds) n (λ e. omega arith))
+too-many (AtMost n) s ds l = rw (lt-leb (length ds) n (omega arith)) (go (plainNumber ds))
+  where
+    go : (t : Bool) → ((t && false) && true) ≡ false
+    go true = refl
+    go false = refl
 too-many (Integer b) s ds l = go (plainNumber ds) refl
   where
     go : (t : Bool) → plainNumber ds ≡ t → (t && ltb (value 10 ds) (2 ^ b)) ≡ false

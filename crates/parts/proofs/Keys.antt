@@ -11,7 +11,7 @@ use lib.Seq.{drop-cons, append-snoc}
 use Rattle.numeral.specs.Numeral.{value, Digits}
 use Rattle.numeral.proofs.Values.{digits-left, digits-drop, value-inj}
 use Rattle.rules.specs.declared.Scheme.{Scheme}
-use Rattle.rules.specs.declared.Scheme.the-variants.{Sgtin96, Sgtin198, Sscc96, Sgln96, Sgln195, Grai96, Grai170, Giai96, Gsrn96, Gsrnp96, Gdti96, Gdti174, Gid96}
+use Rattle.rules.specs.declared.Scheme.the-variants.{Sgtin96, Sgtin198, Sscc96, Sgln96, Sgln195, Grai96, Grai170, Giai96, Gsrn96, Gsrnp96, Gdti96, Gdti174, Gid96, Gdti113, Sgcn96, Cpi96}
 use Rattle.rules.specs.Bytes.{among, upto, behind, colon}
 use Rattle.rules.specs.Schemes.{schemes}
 use Rattle.rules.specs.Grammar.{label}
@@ -50,6 +50,9 @@ sound Gsrnp96 = record { own = refl; whole = refl; clear = tt; bytes = omega ari
 sound Gdti96 = record { own = refl; whole = refl; clear = tt; bytes = omega arith; short = omega arith }
 sound Gdti174 = record { own = refl; whole = refl; clear = tt; bytes = omega arith; short = omega arith }
 sound Gid96 = record { own = refl; whole = refl; clear = tt; bytes = omega arith; short = omega arith }
+sound Gdti113 = record { own = refl; whole = refl; clear = tt; bytes = omega arith; short = omega arith }
+sound Sgcn96 = record { own = refl; whole = refl; clear = tt; bytes = omega arith; short = omega arith }
+sound Cpi96 = record { own = refl; whole = refl; clear = tt; bytes = omega arith; short = omega arith }
 
 -- what a key says
 abbrev KeyedIs : ℕ → Keyed → Type 0

@@ -20,7 +20,7 @@ use Rattle.digits.proofs.Runs.{leading, run-starts}
 use Rattle.digits.proofs.Parts.{part-at, no-part-at}
 use Rattle.parts.specs.Parts.{formOf, Short, fitting, foundOf}
 use Rattle.parts.specs.declared.parts.Form.{Form}
-use Rattle.parts.specs.declared.parts.Form.the-variants.{Prefix, Digits, Integer}
+use Rattle.parts.specs.declared.parts.Form.the-variants.{Prefix, Digits, Integer, AtMost}
 use Rattle.parts.specs.declared.parts.Part.the-variants.{Is, Wrong}
 use Rattle.parts.proofs.Fitting.{zeroFirst, fitting-is, too-many}
 
@@ -29,6 +29,7 @@ pub symbols-digits : (f : Form) (x : List ℕ) → symbolsIn (formOf f) x ≡ di
 symbols-digits Prefix x = refl
 symbols-digits (Digits n) x = refl
 symbols-digits (Integer b) x = refl
+symbols-digits (AtMost n) x = refl
 
 abbrev pub right : Form → List ℕ → Bool
 right f ds = shaped (formOf f) ds && sized (formOf f) ds
@@ -71,6 +72,7 @@ zero-first : (f : Form) (ds w : List ℕ) (v : ℕ) → fitting (formOf f) (leng
 zero-first Prefix [] w v = refl
 zero-first (Digits n) [] w v = refl
 zero-first (Integer b) [] w v = refl
+zero-first (AtMost n) [] w v = refl
 zero-first f (d ∷ ds) w v = ap (λ z. fitting (formOf f) (length (d ∷ ds)) z v) (zero-of (d ∷ ds) w (omega arith))
 
 -- the byte at the start of a run

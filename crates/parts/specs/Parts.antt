@@ -6,27 +6,29 @@ use lib.Dec.{leb, ltb, eqb}
 use lib.ListN.{length}
 use Rattle.numeral.specs.Numeral.{value}
 use Rattle.rules.specs.Answers.{Answer, refused, taken}
-use Rattle.rules.specs.Schemes.{company, digits, integer, string}
+use Rattle.rules.specs.Schemes.{company, digits, integer, string, atMost, numeric}
 use Rattle.rules.specs.Schemes.{Form as RulesForm}
 use Rattle.parts.specs.declared.parts.Form.{Form}
-use Rattle.parts.specs.declared.parts.Form.the-variants.{Prefix, Digits, Integer}
+use Rattle.parts.specs.declared.parts.Form.the-variants.{Prefix, Digits, Integer, AtMost}
 use Rattle.parts.specs.declared.parts.Part.{Part}
 use Rattle.parts.specs.declared.parts.Part.the-variants.{Wrong}
 use Rattle.parts.specs.declared.parts.Part.the-variants.{Is as Found}
 use Rattle.parts.specs.declared.parts.End.{End}
 use Rattle.parts.specs.declared.parts.End.the-variants.{Is, Refused}
 
--- the rules' form; the bits of a part with a fixed number of digits play no part in its text
+-- the rules' form; the bits of a part whose digits are counted play no part in its text
 abbrev pub formOf : Form → RulesForm
 formOf Prefix = company
 formOf (Digits n) = digits 0 n
 formOf (Integer b) = integer b
+formOf (AtMost n) = atMost 0 n
 
 -- nineteen digits are enough to tell whether a part is in the form
 abbrev pub Short : Form → Type 0
 Short Prefix = Unit
 Short (Digits n) = n ≤ 19
 Short (Integer b) = b ≤ 63
+Short (AtMost n) = n ≤ 19
 
 -- `0`, or no leading zero, by the number of digits and whether the first is 0
 abbrev pub plainly : ℕ → Bool → Bool
@@ -38,6 +40,8 @@ fitting company n zero v = leb 6 n && leb n 12
 fitting (digits b k) n zero v = eqb n k
 fitting (integer b) n zero v = plainly n zero && ltb v (2 ^ b)
 fitting (string b) n zero v = false
+fitting (atMost b k) n zero v = plainly n zero && leb n k
+fitting (numeric b k) n zero v = false
 
 -- what a part that stands at an index is in code
 abbrev pub foundOf : ℕ → Answer (List ℕ) → Part
@@ -49,7 +53,7 @@ abbrev pub endOf : Answer (List ℕ) → End
 endOf (refused n) = Refused n
 endOf (taken p) = Is (value 10 p)
 
--- an integer of more digits than are read, by the rest of it and its first digit
+-- a part of more digits than are read, by the rest of it, and whether a zero stands where none may
 abbrev pub longerOf : Bool → Bool → End
 longerOf true true = Refused 7
 longerOf true false = Refused 8

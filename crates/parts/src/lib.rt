@@ -9,4 +9,5 @@ pub use parts::Form;
 pub use parts::Part;
 pub use parts::digits_to_end;
 pub use parts::integer_to_end;
+pub use parts::numeric_to_end;
 pub use parts::part_at;

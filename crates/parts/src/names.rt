@@ -1,7 +1,9 @@
 // The name of a scheme in a text, and the colon behind it (document 01, "The text of a tag"). The bytes between the name's first letter
 // and the colon are read as one number, the key, which is looked up in a table.
 use rules::Scheme;
+use scheme::types::Cpi96;
 use scheme::types::Gdti96;
+use scheme::types::Gdti113;
 use scheme::types::Gdti174;
 use scheme::types::Giai96;
 use scheme::types::Gid96;
@@ -9,6 +11,7 @@ use scheme::types::Grai96;
 use scheme::types::Grai170;
 use scheme::types::Gsrn96;
 use scheme::types::Gsrnp96;
+use scheme::types::Sgcn96;
 use scheme::types::Sgln96;
 use scheme::types::Sgln195;
 use scheme::types::Sgtin96;
@@ -96,6 +99,9 @@ fn by_key(rest: u64) -> Keyed
         0x6474692D3936 => Keyed::By(Gdti96::new(), b'g', 6), // gdti-96
         0x6474692D313734 => Keyed::By(Gdti174::new(), b'g', 7), // gdti-174
         0x69642D3936 => Keyed::By(Gid96::new(), b'g', 5), // gid-96
+        0x6474692D313133 => Keyed::By(Gdti113::new(), b'g', 7), // gdti-113
+        0x67636E2D3936 => Keyed::By(Sgcn96::new(), b's', 6), // sgcn-96
+        0x70692D3936 => Keyed::By(Cpi96::new(), b'c', 5), // cpi-96
         _ => Keyed::Unkeyed,
     }
 }

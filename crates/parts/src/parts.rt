@@ -1,4 +1,4 @@
-// The numeric parts of a text: up to the next dot, or to the end (document 01, "Numbers given, and when": 4 to 8).
+// The numeric parts of a text: up to the next dot, or to the end (document 01, "Numbers given, and when": 4 to 8; document 02, C-11).
 use digits::all_digits;
 use digits::run_at;
 use scheme::refusal;
@@ -6,15 +6,17 @@ ghost use mathlib.Core.Path.{_≡_};
 ghost use Prim.Native.Nat.{_≤_};
 ghost use lib.ListN.{length, drop};
 ghost use Rattle.rules.specs.Bytes.{all};
-ghost use Rattle.rules.specs.Schemes.{digits, integer};
+ghost use Rattle.rules.specs.Schemes.{digits, integer, numeric};
 ghost use Rattle.rules.specs.TextNumbers.{isDigit, partIn, lastIn};
 ghost use Rattle.parts.specs.Parts.{formOf, Short, plainly, fitting, foundOf, endOf, longerOf, shorterOf};
 
-// How a part is written: as a company prefix, with exactly so many digits, or as an integer of so many bits.
+// How a part is written: as a company prefix, with exactly so many digits, as an integer of so many bits, or as an integer of at most so
+// many digits.
 pub enum Form {
     Prefix,
     Digits(usize),
     Integer(usize),
+    AtMost(usize),
 }
 
 // A part that stands before a dot: its value, how many digits it has, and where the text goes on behind the dot.
@@ -61,6 +63,12 @@ fn fits(form: Form, n: usize, zero: bool, value: u64) -> bool
         }
         Form::Digits(k) => n == k,
         Form::Integer(bits) => is_integer(n, zero, value, bits),
+        Form::AtMost(k) => {
+            if k < n {
+                return false;
+            }
+            is_plain(n, zero)
+        }
     }
 }
 
@@ -106,8 +114,8 @@ pub fn digits_to_end(text: &[u8], at: usize, n: usize) -> End
     End::Is(run.value)
 }
 
-// An integer of more than nineteen digits. The bytes from index `at` on are still to be read; `zero` says whether its first digit is 0. It
-// is too large, unless its form is wrong.
+// A part of more than nineteen digits. The bytes from index `at` on are still to be read; `zero` says whether a zero stands where none may.
+// It is too large, unless its form is wrong.
 fn longer(text: &[u8], at: usize, zero: bool) -> End
     requires { ⌜ at ≤ length (now text) ⌝ }
     ensures { λ r. ⌜ r ≡ longerOf (all isDigit (drop at (now (text .entry)))) zero ⌝ }
@@ -150,4 +158,24 @@ pub fn integer_to_end(text: &[u8], at: usize, bits: usize) -> End
         return longer(text, end, zero);
     }
     shorter(end - at, zero, run.value, bits)
+}
+
+// The rest of the text from index `at` on, as a numeric string of at most `most` digits; zeros may lead. Its whole form is judged before
+// its size.
+pub fn numeric_to_end(text: &[u8], at: usize, most: usize) -> End
+    requires { ⌜ (at ≤ length (now text)) × (most ≤ 19) ⌝ }
+    ensures { λ r. ⌜ r ≡ endOf (lastIn 7 (numeric 0 most) (drop at (now (text .entry)))) ⌝ }
+{
+    let run = run_at(text, at);
+    let end = run.end;
+    if end < text.len() {
+        return longer(text, end, false);
+    }
+    if end == at {
+        return End::Refused(refusal::LAST_PART_FORM);
+    }
+    if most < end - at {
+        return End::Refused(refusal::LAST_PART_SIZE);
+    }
+    End::Is(run.value)
 }

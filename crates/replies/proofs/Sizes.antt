@@ -12,9 +12,6 @@ use Rattle.numeral.proofs.Shortest.{size-le, size-small}
 use Rattle.rules.specs.Answers.{Answer, refused, taken}
 use Rattle.rules.specs.Bytes.{bytes}
 use Rattle.rules.specs.Conditions.{First, textRules, bankRules, rawRules}
-use Rattle.rules.specs.declared.Scheme.{Scheme}
-use Rattle.rules.specs.declared.Scheme.the-variants.{Sgtin96, Sgtin198, Sscc96, Sgln96, Sgln195, Grai96, Grai170, Giai96, Gsrn96, Gsrnp96, Gdti96, Gdti174, Gid96}
-use Rattle.rules.specs.Schemes.{words}
 use Rattle.rules.specs.Grammar.{Tag, TagText, textOf, start, label}
 use Rattle.rules.specs.Coding.{at, bankOf, wordCount, within}
 use Rattle.rules.specs.TextNumbers.{after, tagOfText}
@@ -25,7 +22,7 @@ use Rattle.rules.proofs.Answers.{Reads}
 use Rattle.rules.proofs.Banks.{Shown, bank-length}
 use Rattle.rules.proofs.BankReads.{bank-reads, at-lt}
 use Rattle.rules.proofs.TextReads.{tag-reads}
-use Rattle.rules.proofs.Lengths.{text-length, raw-length}
+use Rattle.rules.proofs.Lengths.{measured, text-length, raw-length}
 use Rattle.digits.proofs.Texts.{length-hex}
 use Rattle.digits.specs.Starts.{begun}
 use Rattle.replies.specs.Hex.{isBank, bytesIn, bankIn}
@@ -38,29 +35,13 @@ use Rattle.replies.proofs.Refusals.{first-between, with-raw, without-ra
 abbrev Short : ℕ → List ℕ → Type 0
 Short n r = (length r ≤ 150) × (length r < 4 * (n + 1))
 
--- what is seen scheme by scheme
-sizes : (s : Scheme) → (6 ≤ words s) × (words s ≤ 13) × (2 ≤ length (label s))
-sizes Sgtin96 = omega arith
-sizes Sgtin198 = omega arith
-sizes Sscc96 = omega arith
-sizes Sgln96 = omega arith
-sizes Sgln195 = omega arith
-sizes Grai96 = omega arith
-sizes Grai170 = omega arith
-sizes Giai96 = omega arith
-sizes Gsrn96 = omega arith
-sizes Gsrnp96 = omega arith
-sizes Gdti96 = omega arith
-sizes Gdti174 = omega arith
-sizes Gid96 = omega arith
-
 number-short : (n m : ℕ) → n < 10 → Short m (replyN n)
 number-short n m h = let d = decimal-long n in let e = size-small 10 (lit< tt) n h in (omega arith, omega arith)
 
 -- To a text.
 text-long : (τ : Tag) → 14 ≤ length (textOf τ)
 unfolding textOf start
-text-long τ = rw (length-append (label (τ .scheme))) (omega (arith, sizes (τ .scheme)))
+text-long τ = rw (length-append (label (τ .scheme))) (omega (arith, measured (τ .scheme)))
 
 text-number : (t : List ℕ) (n : ℕ) → First (textRules t) n → 0 < n → n ≤ 8
 unfolding textRules
@@ -73,7 +54,7 @@ text-short t = go (tagOfText t) (tag-reads t)
     go (taken τ) h =
         let l = length-hex (bankOf τ) in
         let b = bank-length τ in
-        let s = sizes (τ .scheme) in
+        let s = measured (τ .scheme) in
         let u = text-long τ in
         let e = ap length (h .1 .text) in
         (omega arith, omega arith)
@@ -126,7 +107,7 @@ module _ (b : List ℕ) where
       go : (a : Answer Tag) → Reads (bankRules b) (Shown b) a → Short (2 * length b) (ofBank b a)
       go (taken τ) h =
           let l = text-length (textOf τ) τ (record { fits = h .1 .fits; text = refl }) in
-          let s = sizes (τ .scheme) in
+          let s = measured (τ .scheme) in
           let c = h .1 .count in
           let k = h .1 .long in
           (omega arith, omega arith)

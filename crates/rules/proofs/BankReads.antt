@@ -16,7 +16,7 @@ use Rattle.numeral.proofs.Spreads.{length-spread, digits-spread}
 use Rattle.numeral.proofs.Fields.{field-more}
 use Rattle.rules.specs.Answers.{taken, _>>=_, _>>_, demand, given}
 use Rattle.rules.specs.declared.Scheme.{Scheme}
-use Rattle.rules.specs.declared.Last.the-variants.{Integer, String}
+use Rattle.rules.specs.declared.Last.the-variants.{Integer, String, Numeric}
 use Rattle.rules.specs.declared.Body.the-variants.{Then, Zeros, E}
 use Rattle.rules.specs.declared.Parts.{Parts}
 use Rattle.rules.specs.declared.Parts.the-variants.{F, Integers}
@@ -163,6 +163,7 @@ schemeRules b =
 last-alike : (b : List ℕ) (m n : ℕ) (p : Parts) → m - zeroBits p ≡ n → WrongLast b n p ↔ WrongLast b m p
 last-alike b m n (F (Then t (Integer k))) e = Iff·rfl
 last-alike b m n (F (Then t (String k))) e = let q : n ≡ m = omega arith in rw q Iff·rfl
+last-alike b m n (F (Then t (Numeric k l))) e = let q : n ≡ m = omega arith in rw q Iff·rfl
 last-alike b m n (F (Zeros t z)) e = Iff·rfl
 last-alike b m n (F E) e = Iff·rfl
 last-alike b m n (Integers x y z) e = Iff·rfl

@@ -10,19 +10,19 @@ use Rattle.numeral.specs.Numeral.{value, Digits}
 use Rattle.numeral.proofs.Values.{digits-drop}
 use Rattle.rules.specs.declared.Table.{Table}
 use Rattle.rules.specs.declared.Last.{Last}
-use Rattle.rules.specs.declared.Last.the-variants.{Integer, String}
+use Rattle.rules.specs.declared.Last.the-variants.{Integer, String, Numeric}
 use Rattle.rules.specs.declared.Body.{Body}
 use Rattle.rules.specs.declared.Body.the-variants.{Then, Zeros, E}
 use Rattle.rules.specs.declared.Parts.{Parts}
 use Rattle.rules.specs.declared.Parts.the-variants.{F, Integers}
-use Rattle.rules.specs.Schemes.{Row, Form, company, integer, rowAt, rowOf, cell, rowDigits, assetBits, prefixBits, prefixDigits, partition, lastForm}
+use Rattle.rules.specs.Schemes.{Row, Form, company, integer, counted, rowAt, rowOf, cell, assetBits, prefixBits, prefixDigits, partition, lastForm, digits, atMost}
 use Rattle.rules.specs.Grammar.{Role, Layout, part, end, laid, bodyLayout, Fits, more, one}
 use Rattle.rules.specs.Coding.{partBits, coded, at}
 use Rattle.rules.specs.BankNumbers.{Field, fieldIn, fieldsIn}
-use Rattle.rules.specs.Conditions.{Rule, rule, partitionIn, rowIn, NoRow, LargePrefix, LargeCell, LargeReference, WrongGroups, WrongLast}
+use Rattle.rules.specs.Conditions.{Rule, rule, partitionIn, rowIn, NoRow, LargePrefix, LargeCell, LargeReference, WrongGroups, OneThen, WrongLast}
 use Rattle.rules.proofs.Answers.{Reads, reads-map, reads-bind, Covers, done, same, extra, reads-covers}
 use Rattle.rules.proofs.Numbers.{read}
-use Rattle.rules.proofs.Rows.{narrow-row}
+use Rattle.rules.proofs.Rows.{by-count, narrow-row}
 use Rattle.rules.proofs.Fields.{width, Roomy, part-length}
 use Rattle.rules.proofs.FieldReads.{FieldIs, fieldRules, widest, field-reads, groupOf, wrong-alike}
 use Rattle.rules.proofs.Codes.{Ends, RowSizes, PartSizes, has-row, row-sizes}
@@ -55,6 +55,20 @@ rest-is : (f : Form) (l : List ℕ) (c : Field) → Roomy f → FieldIs f l c �
 rest-is f l c r i =
     sym (ap (drop (width f (c .symbols))) (i .1) ∙ drop-at (partBits f (c .symbols)) (c .rest) (width f (c .symbols)) (part-length f (c .symbols) r (i .0)))
 
+-- the reference of a table: rule 18, and what follows its bits
+row-goes-on : {r : Role} {k : List ℕ → Layout} {l : List ℕ} {qs : List Rule} (t : Table) (b n : ℕ) → Roomy (counted t b n) → Digits 2 l → b ≤ length l
+    → ((p : List ℕ) → CodeReads qs (k p) (drop b l)) → CodeReads (rule 18 (10 ^ n ≤ value 2 (take b l)) ∷ qs) (part r (counted t b n) k) l
+row-goes-on {r} {k} {l} {qs} t b n roomy d w h =
+    by-count (λ f. Roomy f → CodeReads (rule 18 (10 ^ n ≤ value 2 (take b l)) ∷ qs) (part r f k) l) t b n
+    (λ y. goes-on y d w λ c i. rw (rest-is (digits b n) l c y i) (h (c .symbols)))
+    (λ y. goes-on y d w λ c i. rw (rest-is (atMost b n) l c y i) (h (c .symbols)))
+    roomy
+
+row-ends : {r : Role} {l : List ℕ} (t : Table) (b n : ℕ) → Roomy (counted t b n) → Digits 2 l → b ≤ length l
+    → CodeReads (rule 18 (10 ^ n ≤ value 2 (take b l)) ∷ []) (end r (counted t b n)) l
+row-ends {r} {l} t b n roomy d w =
+    by-count (λ f. Roomy f → CodeReads (rule 18 (10 ^ n ≤ value 2 (take b l)) ∷ []) (end r f) l) t b n (λ y. ends y d w) (λ y. ends y d w) roomy
+
 -- bits within the first m of a list
 pub take-inside : (p w m : ℕ) (l : List ℕ) → p + w ≤ m → take w (drop p (take m l)) ≡ take w (drop p l)
 take-inside zero w m l h = take-take w m l (omega arith)
@@ -85,6 +99,12 @@ module _ (b l : List ℕ) (n : ℕ) (d : Digits 2 l) (long : n ≤ length l) (se
 
       back : WrongLast b (8 + n) (F (Then t (String w))) → WrongGroups (w / 7) (groupOf (take w (drop q l)))
       back = wrong-alike (w / 7) (λ i. at b (0x20 + (8 + n - w) + 7 * i) 7) (groupOf (take w (drop q l))) (h .2) λ i v. sym (groups-seen q w i (h .0) k v)
+  end-reads t r q (Numeric w m) h k = covered (same refl seen-alike done) (ends (h .1) (tail-bits q) (tail-long q w (omega arith)))
+    where
+      seen-alike : (¬ (OneThen m (value 2 (take w (drop q l))))) ↔ WrongLast b (8 + n) (F (Then t (Numeric w m)))
+      seen-alike =
+          let a : 0x20 + (8 + n - w) ≡ 0x28 + q = omega arith in
+          rw (a, seen q w (omega arith)) Iff·rfl
 
   -- behind a company prefix of m digits, whose row is the bank's
   cell-seen : (t : Table) (m : ℕ) → partitionIn b ≡ partition m → 6 + prefixBits (rowOf m) + cell t (rowOf m) .0 ≤ n
@@ -100,11 +120,12 @@ module _ (b l : List ℕ) (n : ℕ) (d : Digits 2 l) (long : n ≤ length l) (se
       let p = 6 + prefixBits (rowOf m) in
       let w = cell t (rowOf m) .0 in
       covered (same refl (cell-seen t m e (h .1)) (same refl Iff·rfl done))
-      (goes-on (h .0) (tail-bits p) (tail-long p w (h .1)) λ c i.
-      rw (rest-is (rowDigits t (rowOf m)) (drop p l) c (h .0) i, drop-drop w p l) (end-reads t _ (p + w) x (h .2) (h .1)))
+      (row-goes-on t w (cell t (rowOf m) .1) (h .0) (tail-bits p) (tail-long p w (h .1)) λ _.
+      rw (drop-drop w p l) (end-reads t _ (p + w) x (h .2) (h .1)))
   body-reads (Zeros t z) m e h =
       let p = 6 + prefixBits (rowOf m) in
-      covered (same refl (cell-seen t m e (omega arith)) (extra (λ e. e) done)) (ends (h .0) (tail-bits p) (tail-long p (cell t (rowOf m) .0) (omega arith)))
+      let c = cell t (rowOf m) in
+      covered (same refl (cell-seen t m e (omega arith)) (extra (λ e. e) done)) (row-ends t (c .0) (c .1) (h .0) (tail-bits p) (tail-long p (c .0) (omega arith)))
   body-reads E m e h =
       let p = 6 + prefixBits (rowOf m) in
       covered (extra (λ e. e) (extra (λ e. e) done)) (ends tt (tail-bits p) (tail-long p (assetBits (rowOf m)) (omega arith)))

@@ -10,31 +10,31 @@ use Rattle.numeral.specs.Numeral.{Digits}
 use Rattle.numeral.proofs.Values.{digits-append}
 use Rattle.rules.specs.Answers.{taken}
 use Rattle.rules.specs.declared.Scheme.{Scheme}
-use Rattle.rules.specs.declared.Scheme.the-variants.{Sgtin96, Sgtin198, Sscc96, Sgln96, Sgln195, Grai96, Grai170, Giai96, Gsrn96, Gsrnp96, Gdti96, Gdti174, Gid96}
+use Rattle.rules.specs.declared.Scheme.the-variants.{Sgtin96, Sgtin198, Sscc96, Sgln96, Sgln195, Grai96, Grai170, Giai96, Gsrn96, Gsrnp96, Gdti96, Gdti174, Gid96, Gdti113, Sgcn96, Cpi96}
 use Rattle.rules.specs.declared.Last.{Last}
-use Rattle.rules.specs.declared.Last.the-variants.{Integer, String}
+use Rattle.rules.specs.declared.Last.the-variants.{Integer, String, Numeric}
 use Rattle.rules.specs.declared.Body.{Body}
 use Rattle.rules.specs.declared.Body.the-variants.{Then, Zeros, E}
 use Rattle.rules.specs.declared.Parts.{Parts}
 use Rattle.rules.specs.declared.Parts.the-variants.{F, Integers}
-use Rattle.rules.specs.Schemes.{company, Row, rows, rowOf, cell, assetBits, prefixBits, prefixDigits, partition, lastForm, schemes, about, words, zeroBits}
+use Rattle.rules.specs.Schemes.{company, Row, rows, rowOf, cell, rowDigits, assetBits, prefixBits, prefixDigits, partition, lastForm, schemes, about, words, zeroBits}
 use Rattle.rules.specs.Grammar.{last, Layout, part, end, laid, bodyLayout, layout, Fit, Fits, more, one}
 use Rattle.rules.specs.Coding.{partBits, coded}
 use Rattle.rules.specs.BankNumbers.{headed, fieldsIn}
 use Rattle.rules.proofs.Tests.{both}
 use Rattle.rules.proofs.Rows.{AllRows, by-row, row-fair, row-picked}
-use Rattle.rules.proofs.Fields.{width, Roomy, part-length, part-bits, field-of}
+use Rattle.rules.proofs.Fields.{width, row-width, Roomy, part-length, part-bits, field-of}
 
 -- A last part takes exactly w bits.
 abbrev pub Ends : Last → ℕ → Type 0
 Ends (Integer b) w = b ≡ w
 Ends (String b) w = (b ≡ w) × (b ≡ 7 * (b / 7)) × (0 < b / 7)
+Ends (Numeric b n) w = (b ≡ w) × (2 * 10 ^ n ≤ 2 ^ b)
 
 -- The filter, the company prefix, the reference and what follows take n bits, whatever the row.
 abbrev pub RowSizes : Body → ℕ → Row → Type 0
-RowSizes (Then t l) n r =
-    (10 ^ cell t r .1 ≤ 2 ^ cell t r .0) × (6 + prefixBits r + cell t r .0 ≤ n) × Ends l (n - (6 + prefixBits r + cell t r .0))
-RowSizes (Zeros t z) n r = (10 ^ cell t r .1 ≤ 2 ^ cell t r .0) × (6 + prefixBits r + cell t r .0 ≡ n)
+RowSizes (Then t l) n r = Roomy (rowDigits t r) × (6 + prefixBits r + cell t r .0 ≤ n) × Ends l (n - (6 + prefixBits r + cell t r .0))
+RowSizes (Zeros t z) n r = Roomy (rowDigits t r) × (6 + prefixBits r + cell t r .0 ≡ n)
 RowSizes E n r = 6 + prefixBits r + assetBits r ≡ n
 
 abbrev pub PartSizes : Parts → ℕ → Type 0
@@ -69,6 +69,9 @@ sound Gsrnp96 = (refl, omega arith)
 sound Gdti96 = (refl, omega arith)
 sound Gdti174 = (refl, omega arith)
 sound Gid96 = (refl, omega arith)
+sound Gdti113 = (refl, omega arith)
+sound Sgcn96 = (refl, omega arith)
+sound Cpi96 = (refl, omega arith)
 
 pub headed-of : (s : Scheme) → headed (about s .header) schemes ≡ some s
 headed-of s = sound s .0
@@ -100,13 +103,14 @@ fields-of (more {f = f} {k = k} {p = p} {ps = ps} h i) w t z =
 end-takes : (l : Last) (w : ℕ) → Ends l w → Takes (end last (lastForm l)) w
 end-takes (Integer b) w h = (tt, λ p f. h)
 end-takes (String b) w h = ((h .1, h .2), λ p f. h .0)
+end-takes (Numeric b n) w h = (h .1, λ p f. h .0)
 
 body-takes : (body : Body) (m n : ℕ) → RowSizes body n (rowOf m) → Takes (bodyLayout body m) (n - 3 - (3 + prefixBits (rowOf m)))
 body-takes (Then t l) m n h =
     let r = rowOf m in
     let e : n - 3 - (3 + prefixBits r) - cell t r .0 ≡ n - (6 + prefixBits r + cell t r .0) = omega arith in
-    (h .0, λ p q. (omega arith, rw e (end-takes l _ (h .2))))
-body-takes (Zeros t z) m n h = (h .0, λ p q. omega arith)
+    (h .0, λ p q. rw (row-width t (cell t r .0) (cell t r .1) p) (omega arith, rw e (end-takes l _ (h .2))))
+body-takes (Zeros t z) m n h = let c = cell t (rowOf m) in (h .0, λ p q. rw (row-width t (c .0) (c .1) p) (omega arith))
 body-takes E m n h = (tt, λ p q. omega arith)
 
 -- a company prefix that fits picks a row

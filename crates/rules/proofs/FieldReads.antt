@@ -5,25 +5,26 @@ use mathlib.Core.Logic.{inl, inr}
 use mathlib.Core.List.{List, [], _∷_, _++_, append-assoc}
 use mathlib.Core.Bool.{not}
 use native.Mathlib.Omega.{arith}
-use lib.Dec.{T, leb, eqb, le→leb, lt→ltb, eqb→eq, eqb-refl, lit<}
+use lib.Dec.{T, leb, ltb, eqb, le→leb, ltb→lt, lt→ltb, nltb→le, eqb→eq, eqb-refl, lit<}
 use lib.ListN.{length, getD, take, drop, length-append, length-replicate, length-drop, take-append-drop}
 use lib.Seq.{length-take-le}
 use Rattle.numeral.specs.Numeral.{value, Digits, spread, gather, shortest}
 use Rattle.numeral.proofs.Values.{digits-take, digits-drop}
-use Rattle.numeral.proofs.Shortest.{value-shortest}
+use Rattle.numeral.proofs.Shortest.{value-shortest, length-shortest, size-le}
 use Rattle.numeral.proofs.Spreads.{length-gather, spread-gather, gather-at}
 use Rattle.rules.specs.Answers.{demand}
-use Rattle.rules.specs.Schemes.{Form, company, digits, integer, string, rowAt, partition, prefixBits, prefixDigits}
-use Rattle.rules.specs.Grammar.{Fit}
+use Rattle.rules.specs.Schemes.{Form, company, digits, integer, string, atMost, numeric, rowAt, partition, prefixBits, prefixDigits}
+use Rattle.rules.specs.Grammar.{plainNumber, Fit}
 use Rattle.rules.specs.Coding.{partBits}
-use Rattle.rules.specs.BankNumbers.{Field, field, fieldIn, decimal, stringIn}
-use Rattle.rules.specs.Conditions.{Rule, rule, WrongGroups}
+use Rattle.rules.specs.BankNumbers.{Field, field, fieldIn, decimal, stringIn, numericIn}
+use Rattle.rules.specs.Conditions.{Rule, rule, WrongGroups, OneThen}
 use Rattle.rules.proofs.Tests.{and, apart, not-not}
 use Rattle.rules.proofs.Answers.{Reads, settled-demand, settled-as, check, step, reads-weaken}
 use Rattle.rules.proofs.Decimals.{digits-all}
 use Rattle.rules.proofs.Rows.{row-fair}
 use Rattle.rules.proofs.Numbers.{front, DecimalIs, decimal-reads, whole-digits, whole-is}
 use Rattle.rules.proofs.Groups.{StringIs, string-settled}
+use Rattle.rules.proofs.Numerics.{NumericIs, numeric-settled}
 use Rattle.rules.proofs.Fields.{Roomy, filled-is}
 
 -- what is read of l: a part that fits, and its bits in front of the rest
@@ -41,6 +42,8 @@ fieldRules company l =
 fieldRules (digits b n) l = rule 18 (10 ^ n ≤ value 2 (take b l)) ∷ []
 fieldRules (integer b) l = []
 fieldRules (string b) l = rule 19 (WrongGroups (b / 7) (groupOf (take b l))) ∷ []
+fieldRules (atMost b n) l = rule 18 (10 ^ n ≤ value 2 (take b l)) ∷ []
+fieldRules (numeric b n) l = rule 19 (¬ (OneThen n (value 2 (take b l)))) ∷ []
 
 -- the bits that must be there
 abbrev pub widest : Form → ℕ
@@ -48,6 +51,8 @@ widest company = 43
 widest (digits b n) = b
 widest (integer b) = b
 widest (string b) = b
+widest (atMost b n) = b
+widest (numeric b n) = b
 
 -- groups that agree below their number are wrong alike
 pub wrong-alike : (k : ℕ) (g h : ℕ → ℕ) → 0 < k → ((i : ℕ) → i < k → g i ≡ h i) → WrongGroups k g → WrongGroups k h
@@ -97,6 +102,17 @@ field-reads (integer b) l r d w =
 field-reads (digits b n) l r d w =
     reads-weaken _ (DecimalIs b n l) (FieldIs (digits b n) l) (decimal 18 b n l) (decimal-reads 18 b n l (lit< tt) d w) λ c i.
     (record { symbols = i .0; shape = rw (i .1) (eqb-refl n); size = tt }, i .2)
+field-reads (atMost b n) l r d w =
+    let v = value 2 (take b l) in
+    check [] (FieldIs (atMost b n) l) 18 (10 ^ n ≤ v) (T (ltb v (10 ^ n))) (demand (ltb v (10 ^ n)) 18) _ (lit< tt)
+    (settled-demand 18 (10 ^ n ≤ v) (ltb v (10 ^ n)) (nltb→le v (10 ^ n)) (λ t k. omega (arith, ltb→lt v (10 ^ n) t))) λ t.
+    let p = shortest 10 v in
+    let m : length p ≤ n = omega (arith, length-shortest 10 (lit< tt) v, size-le 10 (lit< tt) v n (r .1) (ltb→lt v (10 ^ n) t)) in
+    (tt, (record { symbols = digits-all p (whole-digits v); shape = and (plainNumber p) (leb (length p) n) (whole-is v) (le→leb (length p) n m); size = tt }, rw (value-shortest 10 (lit< tt), front b l d w .0) (sym (take-append-drop b l))))
+field-reads (numeric b n) l r d w =
+    let v = value 2 (take b l) in
+    step [] (FieldIs (numeric b n) l) 19 (¬ (OneThen n v)) (NumericIs n v) (numericIn n (shortest 10 v)) _ (lit< tt) (numeric-settled n v) λ ds i.
+    (tt, (record { symbols = digits-all ds (i .0); shape = i .1; size = i .2 }, rw (← i .3, front b l d w .0) (sym (take-append-drop b l))))
 field-reads company l r d w =
     check _ (FieldIs company l) 16 (P ≡ 7) (T (not (eqb P 7))) (demand (not (eqb P 7)) 16) _ (lit< tt)
     (settled-demand 16 (P ≡ 7) (not (eqb P 7)) (λ h. eqb→eq P 7 (not-not (eqb P 7) h)) (apart P 7)) λ t.

@@ -4,24 +4,27 @@ use mathlib.Core.Path.{_≡_, refl, sym, _∙_, ap}
 use mathlib.Core.List.{List, [], _∷_, _++_, append-assoc}
 use mathlib.Core.Bool.{Bool, _&&_, not}
 use native.Mathlib.Omega.{arith}
-use lib.Dec.{T, leb, ltb, eqb, leb→le, ltb→lt, eqb→eq, lit<, not-T}
+use native.Mathlib.Nat.{pow-le-pow-right}
+use lib.Dec.{T, leb, ltb, eqb, leb→le, ltb→lt, lt→ltb, eqb→eq, lit<, not-T}
 use lib.ListN.{length, replicate, length-append, length-replicate}
 use lib.Seq.{take-at, drop-at}
 use Rattle.numeral.specs.Numeral.{value, numeral, Digits, spread}
-use Rattle.numeral.proofs.Values.{length-numeral, digits-numeral, digits-append, digits-zeros}
+use Rattle.numeral.proofs.Values.{length-numeral, value-lt, digits-numeral, digits-append, digits-zeros}
 use Rattle.numeral.proofs.Spreads.{length-spread, digits-spread, spread-append, gather-spread}
 use Rattle.rules.specs.Answers.{taken}
 use Rattle.rules.specs.Bytes.{all}
-use Rattle.rules.specs.Schemes.{Form, company, digits, integer, string, rowOf, partition, prefixBits, prefixDigits}
+use Rattle.rules.specs.declared.Table.{Table}
+use Rattle.rules.specs.Schemes.{Form, company, digits, integer, string, atMost, numeric, counted, rowOf, partition, prefixBits, prefixDigits}
 use Rattle.rules.specs.Characters.{tableA1, character}
-use Rattle.rules.specs.Grammar.{Fit}
+use Rattle.rules.specs.Grammar.{plainNumber, Fit}
 use Rattle.rules.specs.Coding.{binary, filled, partBits}
 use Rattle.rules.specs.BankNumbers.{fieldIn}
 use Rattle.rules.proofs.Tests.{is-true, both, and, all-among}
 use Rattle.rules.proofs.Decimals.{all-digits}
-use Rattle.rules.proofs.Rows.{row-fair, row-picked}
+use Rattle.rules.proofs.Rows.{by-count, row-fair, row-picked}
 use Rattle.rules.proofs.Numbers.{read, decimal-of, whole-of}
 use Rattle.rules.proofs.Groups.{nonzero, string-of}
+use Rattle.rules.proofs.Numerics.{numeric-fits, numeric-of}
 
 -- The bits that a part takes; that a form holds what it should.
 abbrev pub width : Form → List ℕ → ℕ
@@ -29,12 +32,20 @@ width company ds = 3 + prefixBits (rowOf (length ds))
 width (digits b n) ds = b
 width (integer b) ds = b
 width (string b) cs = b
+width (atMost b n) ds = b
+width (numeric b n) ds = b
+
+-- a reference takes the bits of its cell
+pub row-width : (t : Table) (b n : ℕ) (p : List ℕ) → width (counted t b n) p ≡ b
+row-width t b n p = by-count (λ f. width f p ≡ b) t b n refl refl
 
 abbrev pub Roomy : Form → Type 0
 Roomy company = Unit
 Roomy (digits b n) = 10 ^ n ≤ 2 ^ b
 Roomy (integer b) = Unit
 Roomy (string b) = (b ≡ 7 * (b / 7)) × (0 < b / 7)
+Roomy (atMost b n) = (10 ^ n ≤ 2 ^ b) × (0 < n)
+Roomy (numeric b n) = 2 * 10 ^ n ≤ 2 ^ b
 
 -- Characters: 7 bits are enough, and none is 0.
 abbrev sevenBits : ℕ → Bool
@@ -72,6 +83,8 @@ part-length (integer b) ds r h = length-numeral 2 b (value 10 ds)
 part-length (string b) cs r h =
     let s = leb→le (length cs) (b / 7) (h .size) in
     simp (length-append, length-replicate, length-spread) (omega (arith, r))
+part-length (atMost b n) ds r h = length-numeral 2 b (value 10 ds)
+part-length (numeric b n) ds r h = length-numeral 2 b _
 
 pub part-bits : (f : Form) (p : List ℕ) → Digits 2 (partBits f p)
 part-bits company ds =
@@ -81,6 +94,8 @@ part-bits (digits b n) ds = digits-numeral 2 b (value 10 ds) (lit< tt)
 part-bits (integer b) ds = digits-numeral 2 b (value 10 ds) (lit< tt)
 part-bits (string b) cs =
     digits-append 2 (spread 2 7 cs) (replicate (b - length (spread 2 7 cs)) 0) (digits-spread 2 7 cs (lit< tt)) (digits-zeros 2 (b - length (spread 2 7 cs)) (lit< tt))
+part-bits (atMost b n) ds = digits-numeral 2 b (value 10 ds) (lit< tt)
+part-bits (numeric b n) ds = digits-numeral 2 b _ (lit< tt)
 
 -- What is right is read.
 pub field-of : (f : Form) (p z : List ℕ) → Roomy f → Fit f p → fieldIn f (partBits f p ++ z) ≡ taken (record { symbols = p; rest = z })
@@ -89,6 +104,19 @@ field-of (integer b) ds z r h =
     let v = value 10 ds in
     let (a, d) = read b v z (ltb→lt v (2 ^ b) (h .size)) in
     rw (a, d, whole-of ds (all-digits ds (h .symbols)) (h .shape))
+field-of (atMost b n) ds z r h =
+    let v = value 10 ds in
+    let e = all-digits ds (h .symbols) in
+    let (p, l) = both (plainNumber ds) (leb (length ds) n) (h .shape) in
+    let m = leb→le (length ds) n l in
+    let k : 10 ^ length ds ≤ 10 ^ n = pow-le-pow-right (lit< tt) m in
+    let s : v < 10 ^ n = omega (arith, value-lt 10 ds e) in
+    let (a, d) = read b v z (omega (arith, r .0)) in
+    rw (a, d, is-true (ltb v (10 ^ n)) (lt→ltb v (10 ^ n) s), whole-of ds e p)
+field-of (numeric b n) ds z r h =
+    let e = all-digits ds (h .symbols) in
+    let (a, d) = read b (value 10 (1 ∷ ds)) z (numeric-fits b n ds e (leb→le (length ds) n (h .size)) r) in
+    rw (a, d, numeric-of n ds e (h .shape) (h .size))
 field-of company ds z r h =
     let n = length ds in
     let (x, y) = both (leb 6 n) (leb n 12) (h .shape) in

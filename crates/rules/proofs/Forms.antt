@@ -1,4 +1,4 @@
--- A text in one of the four forms: its symbols, and that the tests of the grammar say what the conditions say.
+-- A text in one of the forms: its symbols, and that the tests of the grammar say what the conditions say.
 use Prim.Native.Nat.{ℕ, zero, suc, _/_, _^_}
 use mathlib.Core.Path.{_≡_, refl}
 use mathlib.Core.List.{List, [], _∷_}
@@ -9,7 +9,8 @@ use lib.Dec.{T, leb, leb→le, ltb→lt, le→leb, lt→ltb, nleb→lt, nltb→l
 use lib.ListN.{length}
 use Rattle.numeral.specs.Numeral.{value}
 use Rattle.rules.specs.Bytes.{all}
-use Rattle.rules.specs.Schemes.{Form, company, digits, integer, string}
+use Rattle.rules.specs.declared.Table.{Table}
+use Rattle.rules.specs.Schemes.{Form, company, digits, integer, string, atMost, numeric, counted}
 use Rattle.rules.specs.Grammar.{symbol, plainNumber, shaped, sized, spelled}
 use Rattle.rules.specs.TextNumbers.{symbolsIn, kept, formed}
 use Rattle.rules.specs.Conditions.{Decimal, Whole, zero-alone, leading, Formed, TooLarge}
@@ -17,6 +18,7 @@ use Rattle.rules.proofs.Tests.{is-true, both, and}
 use Rattle.rules.proofs.Answers.{Gives, Decides}
 use Rattle.rules.proofs.Decimals.{all-digits, digits-all, digits-is, digits-of}
 use Rattle.rules.proofs.Spellings.{characters-is, characters-of}
+use Rattle.rules.proofs.Rows.{by-count}
 
 -- the text x is the symbols p
 abbrev pub Symbols : Form → List ℕ → List ℕ → Type 0
@@ -27,12 +29,16 @@ symbols-is company x = digits-is x
 symbols-is (digits b n) x = digits-is x
 symbols-is (integer b) x = digits-is x
 symbols-is (string b) x = characters-is x
+symbols-is (atMost b n) x = digits-is x
+symbols-is (numeric b n) x = digits-is x
 
 symbols-of : (f : Form) (p : List ℕ) → T (all (symbol f) p) → symbolsIn f (spelled f p) ≡ some p
 symbols-of company p h = digits-of p h
 symbols-of (digits b n) p h = digits-of p h
 symbols-of (integer b) p h = digits-of p h
 symbols-of (string b) p h = characters-of p h
+symbols-of (atMost b n) p h = digits-of p h
+symbols-of (numeric b n) p h = digits-of p h
 
 symbols-at : (f : Form) (x p : List ℕ) → Symbols f x p → symbolsIn f x ≡ some p
 symbols-at f x p s = rw (s .1) (symbols-of f p (s .0))
@@ -65,6 +71,10 @@ formed-of company x p s h =
 formed-of (digits b n) x p s h = (p, decimal-of x p s, eqb→eq (length p) n h)
 formed-of (integer b) x p s h = (p, decimal-of x p s, whole-of p h)
 formed-of (string b) x p s h = (p, s, ltb→lt 0 (length p) h)
+formed-of (atMost b n) x p s h =
+    let (w, l) = both (plainNumber p) (leb (length p) n) h in
+    (p, decimal-of x p s, whole-of p w, leb→le (length p) n l)
+formed-of (numeric b n) x p s h = (p, decimal-of x p s, ltb→lt 0 (length p) h)
 
 formed-is : (f : Form) (x : List ℕ) → Formed f x → (p : List ℕ) × Symbols f x p × T (shaped f p)
 formed-is company x r =
@@ -72,6 +82,9 @@ formed-is company x r =
 formed-is (digits b n) x r = (r .0, decimal-is x (r .0) (r .1), rw (r .2) (eqb-refl n))
 formed-is (integer b) x r = (r .0, decimal-is x (r .0) (r .1), whole-is (r .2))
 formed-is (string b) x r = (r .0, r .1, lt→ltb 0 (length (r .0)) (r .2))
+formed-is (atMost b n) x r =
+    (r .0, decimal-is x (r .0) (r .1), and (plainNumber (r .0)) (leb (length (r .0)) n) (whole-is (r .2)) (le→leb (length (r .0)) n (r .3)))
+formed-is (numeric b n) x r = (r .0, decimal-is x (r .0) (r .1), lt→ltb 0 (length (r .0)) (r .2))
 
 pub formed-at : (f : Form) (p : List ℕ) → T (all (symbol f) p) → T (shaped f p) → formed f (spelled f p) ≡ some p
 formed-at f p s h = rw (symbols-of f p s, is-true (shaped f p) h)
@@ -98,6 +111,8 @@ large-of company x p s h = h
 large-of (digits b n) x p s h = h
 large-of (integer b) x p s h = (p, decimal-of x p s, nltb→le (value 10 p) (2 ^ b) h)
 large-of (string b) x p s h = (p, s, nleb→lt (length p) (b / 7) h)
+large-of (atMost b n) x p s h = h
+large-of (numeric b n) x p s h = (p, decimal-of x p s, nleb→lt (length p) n h)
 
 pub not-large : (f : Form) (x p : List ℕ) → Symbols f x p → T (sized f p) → ¬ (TooLarge f x)
 not-large company x p s h r = r
@@ -110,3 +125,12 @@ not-large (string b) x p s h r =
     let e = one-reading (string b) x (r .0) p (r .1) s in
     let k = rw e at (r .2) in
     omega (arith, leb→le (length p) (b / 7) h)
+not-large (atMost b n) x p s h r = r
+not-large (numeric b n) x p s h r =
+    let e = one-reading (numeric b n) x (r .0) p (decimal-is x (r .0) (r .1)) s in
+    let k = rw e at (r .2) in
+    omega (arith, leb→le (length p) n h)
+
+-- the reference of a table has no size of its own
+pub row-not-large : (t : Table) (b n : ℕ) (x : List ℕ) → ¬ (TooLarge (counted t b n) x)
+row-not-large t b n x = by-count (λ f. ¬ (TooLarge f x)) t b n (λ r. r) λ r. r

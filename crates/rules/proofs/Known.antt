@@ -1,4 +1,5 @@
--- The known tags, run through the public calls: document 01's rows 1 to 14 with tagline's example, and an example of 001's annex for each scheme.
+-- The known tags, run through the public calls: document 01's rows 1 to 14 with tagline's example, an example of
+-- 001's annex for each scheme, and gdti-113, which has none there, by hand.
 use Prim.Native.Nat.{ℕ}
 use Prim.Native.String.{String}
 use mathlib.Core.Path.{_≡_, refl}
@@ -26,6 +27,9 @@ pub data Known : Type 0 where
 -- a bank of W words, first the control word, as one number
 unfoldable pub words6 : ℕ → List ℕ
 words6 = numeral 256 14
+
+unfoldable pub words8 : ℕ → List ℕ
+words8 = numeral 256 18
 
 unfoldable pub words11 : ℕ → List ℕ
 words11 = numeral 256 24
@@ -90,7 +94,7 @@ rows1to14 =
     raw (words6 0x3000_330000000000044000000005) "urn:epc:raw:96.x330000000000044000000005" ∷
     bank [] 9 ∷ []
 
--- 001, annex E.3, lines 11955 to 12200, as corrected in docs
+-- 001, annex E.3, lines 11955 to 12200, as corrected in docs; the last two are those of 000, lines 5057 and 5069
 unfoldable pub annex : List Known
 annex =
     each "urn:epc:tag:sgtin-96:3.95060001343.05.123456789" (words6 0x3000_3066C4409047E140075BCD15) ∷
@@ -105,7 +109,24 @@ annex =
     each "urn:epc:tag:gsrnp-96:3.9521141.1234567890" (words6 0x3000_2E76451FD4499602D2000000) ∷
     each "urn:epc:tag:gdti-96:3.9521141.12345.5678" (words6 0x3000_2C76451FD46072000000162E) ∷
     each "urn:epc:tag:gdti-174:3.9521141.98765.ABCDefgh012345678" (words11 0x5800_3E76451FD7039B061438997367D0C18B266D1AB66EE0) ∷
-    each "urn:epc:tag:gid-96:952056.2718.1414" (words6 0x3000_3500E86F8000A9E000000586) ∷ []
+    each "urn:epc:tag:gid-96:952056.2718.1414" (words6 0x3000_3500E86F8000A9E000000586) ∷
+    each "urn:epc:tag:sgcn-96:3.9521141.67890.04711" (words6 0x3000_3F76451FD612640000019907) ∷
+    each "urn:epc:tag:cpi-96:3.9521141.98765.12345" (words6 0x3000_3C76451FD400C0E680003039) ∷
+    each "urn:epc:tag:sgcn-96:3.4012345.67890.04711" (words6 0x3000_3F74F4E4E612640000019907) ∷
+    each "urn:epc:tag:cpi-96:3.0614141.98765.12345" (words6 0x3000_3C74257BF400C0E680003039) ∷ []
+
+-- gdti-113: no source has an example. By hand: the 128 bits are 3A at bit 120, the filter at 117, P at 114, the prefix behind the reference
+-- at 73, and at 15 the integer of a 1 and the digits: 1007, 15, 2 x 10^17 - 1 and 10123. So the last words of the first are 3EFh x 8000h.
+unfoldable pub by-hand : List Known
+by-hand =
+    -- leading zeros
+    each "urn:epc:tag:gdti-113:3.9521141.98765.007" (words8 0x4000_3A76451FD7039A000000000001F78000) ∷
+    -- one digit
+    each "urn:epc:tag:gdti-113:0.952114.123456.5" (words8 0x4000_3A1BA1CC83C480000000000000078000) ∷
+    -- seventeen nines
+    each "urn:epc:tag:gdti-113:7.9521141.98765.99999999999999999" (words8 0x4000_3AF6451FD7039B6345785D89FFFF8000) ∷
+    -- an empty reference
+    each "urn:epc:tag:gdti-113:3.952114100001..0123" (words8 0x4000_3A6376B9B0DC84000000000013C58000) ∷ []
 
 -- 001, section 12, lines 5537 and 5543: control bits and an AFI, without the control fields (document 01, "Raw line")
 unfoldable pub section12 : List Known
@@ -116,6 +137,6 @@ section12 =
     bank (words6 0x31C1_1234567890ABCDEF01234567) 11 ∷
     bank (words6 0x3000_1234567890ABCDEF01234567) 13 ∷ []
 
-pub known-tags : (map gives rows1to14 ≡ map expected rows1to14) × (map gives annex ≡ map expected annex) × (map gives section12 ≡ map expected section12)
-unfolding rows1to14 annex section12 gives expected words6 words11 words13 blank textToBank bankToText rawLine tagOfText tagOfBank rawOfBank rawText bankOf textOf gather value numeral spread sizeIn size shortest schemes rows tableA1 escaped start
-known-tags = (refl, refl, refl)
+pub known-tags : (map gives rows1to14 ≡ map expected rows1to14) × (map gives annex ≡ map expected annex) × (map gives by-hand ≡ map expected by-hand) × (map gives section12 ≡ map expected section12)
+unfolding rows1to14 annex by-hand section12 gives expected words6 words8 words11 words13 blank textToBank bankToText rawLine tagOfText tagOfBank rawOfBank rawText bankOf textOf gather value numeral spread sizeIn size shortest schemes rows tableA1 escaped start
+known-tags = (refl, refl, refl, refl)

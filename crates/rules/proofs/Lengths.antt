@@ -11,21 +11,22 @@ use Rattle.numeral.specs.Numeral.{value, numeral, spread, sizeIn, size, shortes
 use Rattle.numeral.proofs.Shortest.{length-shortest, size-le}
 use Rattle.rules.specs.Bytes.{digitsText, bytes, hexText}
 use Rattle.rules.specs.declared.Scheme.{Scheme}
-use Rattle.rules.specs.declared.Scheme.the-variants.{Sgtin96, Sgtin198, Sscc96, Sgln96, Sgln195, Grai96, Grai170, Giai96, Gsrn96, Gsrnp96, Gdti96, Gdti174, Gid96}
+use Rattle.rules.specs.declared.Scheme.the-variants.{Sgtin96, Sgtin198, Sscc96, Sgln96, Sgln195, Grai96, Grai170, Giai96, Gsrn96, Gsrnp96, Gdti96, Gdti174, Gid96, Gdti113, Sgcn96, Cpi96}
+use Rattle.rules.specs.declared.Table.{Table}
 use Rattle.rules.specs.declared.Body.{Body}
 use Rattle.rules.specs.declared.Body.the-variants.{Then, Zeros, E}
 use Rattle.rules.specs.declared.Parts.{Parts}
 use Rattle.rules.specs.declared.Parts.the-variants.{F, Integers}
-use Rattle.rules.specs.Schemes.{Form, company, digits, integer, string, Row, rows, rowOf, cell, assetBits, prefixDigits, partition, lastForm, schemes, about}
+use Rattle.rules.specs.Schemes.{Form, company, digits, integer, string, atMost, numeric, counted, Row, rows, rowOf, cell, assetBits, prefixDigits, partition, lastForm, schemes, about, words}
 use Rattle.rules.specs.Characters.{tableA1, escaped, plain, spelling, stringText}
-use Rattle.rules.specs.Grammar.{last, Layout, part, end, laid, bodyLayout, Fit, Fits, more, one, spelled, written, Tag, TagText, textOf, start, label}
+use Rattle.rules.specs.Grammar.{plainNumber, last, Layout, part, end, laid, bodyLayout, Fit, Fits, more, one, spelled, written, Tag, TagText, textOf, start, label}
 use Rattle.rules.specs.Coding.{wordCount, within, bankOf}
 use Rattle.rules.specs.TextNumbers.{tagOfText, textNumber}
 use Rattle.rules.specs.Raw.{afi, afiText, rawText}
-use Rattle.rules.proofs.Tests.{every, each}
+use Rattle.rules.proofs.Tests.{both, every, each}
 use Rattle.rules.proofs.Decimals.{all-digits}
 use Rattle.rules.proofs.Numbers.{whole-of}
-use Rattle.rules.proofs.Rows.{AllRows, by-row}
+use Rattle.rules.proofs.Rows.{by-count, AllRows, by-row}
 use Rattle.rules.proofs.Codes.{sizes, has-row}
 use Rattle.rules.proofs.Banks.{bank-length}
 use Rattle.rules.proofs.BankReads.{at-lt}
@@ -36,6 +37,8 @@ longest company ds = prefixDigits (rowOf (length ds))
 longest (digits b n) ds = n
 longest (integer b) ds = b / 3
 longest (string b) cs = 3 * (b / 7)
+longest (atMost b n) ds = n
+longest (numeric b n) ds = n
 
 -- b / 3 digits are enough for b bits
 abbrev Enough : Form → Type 0
@@ -43,6 +46,8 @@ Enough company = Unit
 Enough (digits b n) = Unit
 Enough (integer b) = (0 < b / 3) × (2 ^ b ≤ 10 ^ (b / 3))
 Enough (string b) = Unit
+Enough (atMost b n) = Unit
+Enough (numeric b n) = Unit
 
 string-length : (cs : List ℕ) → length (stringText cs) ≤ 3 * length cs
 string-length [] = omega arith
@@ -61,6 +66,8 @@ part-length (integer b) ds e h =
     let n = ap length (whole-of ds (all-digits ds (h .symbols)) (h .shape)) in
     rw length-map (omega (arith, n, length-shortest 10 (lit< tt) v, size-le 10 (lit< tt) v (b / 3) (e .0) l))
 part-length (string b) cs e h = omega (arith, string-length cs, leb→le (length cs) (b / 7) (h .size))
+part-length (atMost b n) ds e h = rw length-map (omega (arith, leb→le (length ds) n (both (plainNumber ds) (leb (length ds) n) (h .shape) .1)))
+part-length (numeric b n) ds e h = rw length-map (omega (arith, leb→le (length ds) n (h .size)))
 
 -- What fits a layout has a text of at most m characters.
 abbrev Within : Layout → ℕ → Type 0
@@ -88,6 +95,8 @@ EndWithin company m = ⊥
 EndWithin (digits b n) m = n ≤ m
 EndWithin (integer b) m = T (every (integerTests b m))
 EndWithin (string b) m = 3 * (b / 7) ≤ m
+EndWithin (atMost b n) m = n ≤ m
+EndWithin (numeric b n) m = n ≤ m
 
 abbrev BodyWithin : Body → ℕ → Row → Type 0
 BodyWithin (Then t l) m r = (cell t r .1 < m) × EndWithin (lastForm l) (m - suc (cell t r .1))
@@ -104,10 +113,19 @@ end-within company m h = absurd h
 end-within (digits b k) m h = (tt, λ p q. h)
 end-within (integer b) m h = let (e, l) = integer-within b m h in (e, λ p q. l)
 end-within (string b) m h = (tt, λ p q. h)
+end-within (atMost b n) m h = (tt, λ p q. h)
+end-within (numeric b n) m h = (tt, λ p q. h)
+
+row-within : (t : Table) (b n : ℕ) (p : List ℕ) → Enough (counted t b n) × (longest (counted t b n) p ≡ n)
+row-within t b n p = by-count (λ f. Enough f × (longest f p ≡ n)) t b n (tt, refl) (tt, refl)
 
 body-within : (body : Body) (n m : ℕ) → BodyWithin body m (rowOf n) → Within (bodyLayout body n) m
-body-within (Then t l) n m h = (tt, λ p q. (h .0, end-within (lastForm l) (m - suc (cell t (rowOf n) .1)) (h .1)))
-body-within (Zeros t z) n m h = (tt, λ p q. h)
+body-within (Then t l) n m h =
+    let (b, k) = cell t (rowOf n) in
+    (row-within t b k [] .0, λ p q. rw (row-within t b k p .1) (h .0, end-within (lastForm l) (m - suc k) (h .1)))
+body-within (Zeros t z) n m h =
+    let (b, k) = cell t (rowOf n) in
+    (row-within t b k [] .0, λ p q. rw (row-within t b k p .1) h)
 body-within E n m h = end-within (integer (assetBits (rowOf n))) m h
 
 parts-within : (p : Parts) (m : ℕ) → PartsWithin p m → Within (laid p) m
@@ -125,28 +143,39 @@ parts-within (Integers a b c) m h =
 abbrev left : Scheme → ℕ
 left s = 99 - (12 + length (label s))
 
-fits-99 : (s : Scheme) → (12 + length (label s) ≤ 99) × PartsWithin (about s .parts) (left s)
+-- what is seen scheme by scheme: the words, the name, and that 99 characters are enough
+pub record Measured (s : Scheme) : Type 0 where
+  pub least-words : 6 ≤ words s
+  pub most-words : words s ≤ 13
+  pub least-name : 2 ≤ length (label s)
+  pub most-name : 12 + length (label s) ≤ 99
+  pub parts : PartsWithin (about s .parts) (left s)
+
+pub measured : (s : Scheme) → Measured s
 unfolding rows
-fits-99 Sgtin96 = omega arith
-fits-99 Sgtin198 = omega arith
-fits-99 Sscc96 = omega arith
-fits-99 Sgln96 = omega arith
-fits-99 Sgln195 = omega arith
-fits-99 Grai96 = omega arith
-fits-99 Grai170 = omega arith
-fits-99 Giai96 = omega arith
-fits-99 Gsrn96 = omega arith
-fits-99 Gsrnp96 = omega arith
-fits-99 Gdti96 = omega arith
-fits-99 Gdti174 = omega arith
-fits-99 Gid96 = omega arith
+measured Sgtin96 = omega arith
+measured Sgtin198 = omega arith
+measured Sscc96 = omega arith
+measured Sgln96 = omega arith
+measured Sgln195 = omega arith
+measured Grai96 = omega arith
+measured Grai170 = omega arith
+measured Giai96 = omega arith
+measured Gsrn96 = omega arith
+measured Gsrnp96 = omega arith
+measured Gdti96 = omega arith
+measured Gdti174 = omega arith
+measured Gid96 = omega arith
+measured Gdti113 = omega arith
+measured Sgcn96 = omega arith
+measured Cpi96 = omega arith
 
 pub text-length : (t : List ℕ) (τ : Tag) → TagText t τ → length t ≤ 99
 unfolding textOf start
 text-length t τ r =
     let s = τ .scheme in
-    let w = written-length (r .fits) (left s) (parts-within (about s .parts) (left s) (fits-99 s .1)) in
-    rw (r .text, length-append (label s)) (omega (arith, w, fits-99 s .0))
+    let w = written-length (r .fits) (left s) (parts-within (about s .parts) (left s) (measured s .parts)) in
+    rw (r .text, length-append (label s)) (omega (arith, w, measured s .most-name))
 
 pub bank-size : (τ : Tag) → length (bankOf τ) ≤ 64
 bank-size τ = omega (arith, bank-length τ, sizes (τ .scheme) .few-words)

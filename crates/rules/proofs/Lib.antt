@@ -4,12 +4,13 @@ pub mod Answers
 pub mod Runs
 pub mod Decimals
 pub mod Spellings
+pub mod Rows
 pub mod Forms
 pub mod Reading
 pub mod TextReads
-pub mod Rows
 pub mod Numbers
 pub mod Groups
+pub mod Numerics
 pub mod Fields
 pub mod FieldReads
 pub mod Codes

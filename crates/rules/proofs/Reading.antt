@@ -17,7 +17,7 @@ use Rattle.rules.specs.declared.Body.{Body}
 use Rattle.rules.specs.declared.Body.the-variants.{Then, Zeros, E}
 use Rattle.rules.specs.declared.Parts.{Parts}
 use Rattle.rules.specs.declared.Parts.the-variants.{F, Integers}
-use Rattle.rules.specs.Schemes.{Form, integer, rowDigits, assetBits, lastForm, rowOf}
+use Rattle.rules.specs.Schemes.{Form, integer, cell, rowDigits, assetBits, lastForm, rowOf}
 use Rattle.rules.specs.Grammar.{Role, filter, prefix, reference, last, Layout, part, end, laid, bodyLayout, Fit, Fits, more, one, written, spelled, digit, shaped, sized}
 use Rattle.rules.specs.TextNumbers.{formed, numberAt, partIn, lastIn, partsIn}
 use Rattle.rules.specs.Conditions.{Rule, rule, Whole, zero-alone, leading, Formed, TooLarge, Stands, NoFilter, NoPrefix, NoCell, NoReference, OfEnd, OfLast}
@@ -25,7 +25,7 @@ use Rattle.rules.proofs.Answers.{Decides, Settled, Reads, settled-given
 use Rattle.rules.proofs.Tests.{and}
 use Rattle.rules.proofs.Runs.{run-is, among-of, upto-of}
 use Rattle.rules.proofs.Decimals.{no-dots}
-use Rattle.rules.proofs.Forms.{Symbols, formed-of, formed-decides, large-of, not-large}
+use Rattle.rules.proofs.Forms.{Symbols, formed-of, formed-decides, large-of, not-large, row-not-large}
 
 -- A part up to the next dot.
 abbrev PartIs : Form → List ℕ → List ℕ → Type 0
@@ -58,7 +58,7 @@ part-settled n f t = dots (among dot t) refl
 abbrev LastIs : Form → List ℕ → List ℕ → Type 0
 LastIs f t p = Fit f p × (t ≡ spelled f p)
 
-last-reads : (n : ℕ) (f : Form) (t : List ℕ) → 0 < n → Reads (rule n (¬ (Formed f t)) ∷ rule 8 (TooLarge f t) ∷ []) (LastIs f t) (lastIn n f t)
+pub last-reads : (n : ℕ) (f : Form) (t : List ℕ) → 0 < n → Reads (rule n (¬ (Formed f t)) ∷ rule 8 (TooLarge f t) ∷ []) (LastIs f t) (lastIn n f t)
 last-reads n f t z =
     step _ (LastIs f t) n (¬ (Formed f t)) (λ p. Symbols f t p × T (shaped f p)) (given (formed f t) n) _ z
     (settled-given n (¬ (Formed f t)) (λ p. Symbols f t p × T (shaped f p)) (formed f t) (formed-decides f t)) λ p s.
@@ -105,7 +105,8 @@ bodyRules body n w =
 body-reads : (body : Body) (n : ℕ) (w : List ℕ) → LayoutReads (bodyRules body n w) (bodyLayout body n) w
 body-reads (Then t l) n w = goes-on Iff·rfl λ p i. ends last (lastForm l) (behind dot w)
 body-reads (Zeros t z) n w =
-    covered (same refl Iff·rfl (extra (λ e. e) (same refl Iff·rfl done))) (ends reference (rowDigits t (rowOf n)) w)
+    let c = cell t (rowOf n) in
+    covered (same refl Iff·rfl (extra (λ e. e) (same refl (row-not-large t (c .0) (c .1) w, λ e. absurd e) done))) (ends reference (rowDigits t (rowOf n)) w)
 body-reads E n w = covered (extra (λ e. e) (same refl Iff·rfl (same refl Iff·rfl done))) (ends last (integer (assetBits (rowOf n))) w)
 
 -- A filter is an integer of three bits.

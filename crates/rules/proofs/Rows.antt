@@ -3,14 +3,23 @@ use Prim.Native.Nat.{ℕ, zero, suc, _+_, _-_, _^_, _≤_, _<_}
 use mathlib.Core.Path.{_≡_, refl}
 use mathlib.Core.Logic.{⊎-elim}
 use mathlib.Core.List.{List, [], _∷_}
-use mathlib.Core.Bool.{Bool, _&&_}
+use mathlib.Core.Bool.{Bool, true, false, _&&_, cond}
 use native.Mathlib.Omega.{arith}
 use native.Mathlib.Nat.{add-zero, zero-add}
 use lib.Dec.{T, ltb, eqb, ltb→lt, eqb→eq}
 use lib.ListN.{length, getD, List·getD-eq-default}
 use Rattle.numeral.proofs.Arithmetic.{lt-or-ge}
-use Rattle.rules.specs.Schemes.{Row, rows, noRow, rowAt, rowOf, partition, prefixBits, prefixDigits}
+use Rattle.rules.specs.declared.Table.{Table}
+use Rattle.rules.specs.Schemes.{Form, digits, atMost, exact, counted, Row, rows, noRow, rowAt, rowOf, partition, prefixBits, prefixDigits}
 use Rattle.rules.proofs.Tests.{both, below, below-is}
+
+-- a reference has one of two forms: what holds of both holds of each table's
+pub by-count : (Q : Form → Type 0) (t : Table) (b n : ℕ) → Q (digits b n) → Q (atMost b n) → Q (counted t b n)
+by-count Q t b n x y = go (exact t)
+  where
+    go : (e : Bool) → Q (cond e (digits b n) (atMost b n))
+    go true = x
+    go false = y
 
 -- Q holds of each row and its partition value, counted from n
 abbrev pub AllRows : (ℕ → Row → Type 0) → ℕ → List Row → Type 0

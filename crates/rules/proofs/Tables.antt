@@ -12,7 +12,7 @@ use Rattle.rules.proofs.Rows.{AllRows}
 use Rattle.rules.proofs.Numbered.{from}
 
 -- The prefix bits are the fewest that hold the digits; in each table the bits, and the digits, of prefix and reference have one sum.
-pub record Inner (P : ℕ) (p a b c d : ℕ × ℕ) (e : ℕ) : Type 0 where
+pub record Inner (P : ℕ) (p a b c d : ℕ × ℕ) (e : ℕ) (k : ℕ × ℕ) : Type 0 where
   pub hold : 10 ^ p .1 ≤ 2 ^ p .0
   pub fewest : 2 ^ (p .0 - 1) < 10 ^ p .1
   pub digits : P + p .1 ≡ 12
@@ -25,9 +25,11 @@ pub record Inner (P : ℕ) (p a b c d : ℕ × ℕ) (e : ℕ) : Type 0 where
   pub bits-D : p .0 + d .0 ≡ 41
   pub digits-D : p .1 + d .1 ≡ 12
   pub bits-E : p .0 + e ≡ 82
+  pub bits-Cpi : p .0 + k .0 ≡ 51
+  pub digits-Cpi : p .1 + k .1 ≡ 15
 
 abbrev pub InnerRules : ℕ → Row → Type 0
-InnerRules P (row p a b c d e) = Inner P p a b c d e
+InnerRules P (row p a b c d e k) = Inner P p a b c d e k
 
 pub partition-tables : AllRows InnerRules 0 rows
 unfolding rows
@@ -37,7 +39,7 @@ partition-tables = (omega arith, (omega arith, (omega arith, (omega arith, (omeg
 pub rounded-up : (bits : ℕ) → (bits ≤ 16 * wordsFor bits) × (16 * wordsFor bits < bits + 16)
 rounded-up bits = (omega arith, omega arith)
 
-pub word-counts : map words schemes ≡ 6 ∷ 13 ∷ 6 ∷ 6 ∷ 13 ∷ 6 ∷ 11 ∷ 6 ∷ 6 ∷ 6 ∷ 6 ∷ 11 ∷ 6 ∷ []
+pub word-counts : map words schemes ≡ 6 ∷ 13 ∷ 6 ∷ 6 ∷ 13 ∷ 6 ∷ 11 ∷ 6 ∷ 6 ∷ 6 ∷ 6 ∷ 11 ∷ 6 ∷ 8 ∷ 6 ∷ 6 ∷ []
 unfolding schemes
 word-counts = refl
 

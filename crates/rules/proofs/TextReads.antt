@@ -10,12 +10,12 @@ use lib.ListN.{length}
 use Rattle.rules.specs.Answers.{taken, given}
 use Rattle.rules.specs.Bytes.{dot}
 use Rattle.rules.specs.declared.Scheme.{Scheme}
-use Rattle.rules.specs.declared.Scheme.the-variants.{Sgtin96, Sgtin198, Sscc96, Sgln96, Sgln195, Grai96, Grai170, Giai96, Gsrn96, Gsrnp96, Gdti96, Gdti174, Gid96}
+use Rattle.rules.specs.declared.Scheme.the-variants.{Sgtin96, Sgtin198, Sscc96, Sgln96, Sgln195, Grai96, Grai170, Giai96, Gsrn96, Gsrnp96, Gdti96, Gdti174, Gid96, Gdti113, Sgcn96, Cpi96}
 use Rattle.rules.specs.declared.Body.{Body}
 use Rattle.rules.specs.declared.Body.the-variants.{Then, Zeros, E}
 use Rattle.rules.specs.declared.Parts.{Parts}
 use Rattle.rules.specs.declared.Parts.the-variants.{F, Integers}
-use Rattle.rules.specs.Schemes.{Form, company, digits, integer, string, schemes, about}
+use Rattle.rules.specs.Schemes.{Form, company, digits, integer, string, atMost, numeric, rowOf, cell, schemes, about}
 use Rattle.rules.specs.Grammar.{Layout, part, end, laid, bodyLayout, layout, Fit, Fits, more, one, sized, spelled, written, Tag, start, label, textOf, TagText}
 use Rattle.rules.specs.TextNumbers.{after, Named, choose, named, partsIn, tagOfText}
 use Rattle.rules.specs.Conditions.{Rule, rule, Formed, TooLarge, NoFilter, NoPrefix, NoReference, OfLast, OfText, textRules}
@@ -24,6 +24,7 @@ use Rattle.rules.proofs.Tests.{is-true}
 use Rattle.rules.proofs.Answers.{Gives, gives-map, Decides, decided, Reads, settled-given, step, reads-map, Covers, done, same, reads-covers}
 use Rattle.rules.proofs.Runs.{without, among-of, upto-of, behind-of}
 use Rattle.rules.proofs.Decimals.{no-dots}
+use Rattle.rules.proofs.Rows.{by-count}
 use Rattle.rules.proofs.Forms.{formed-at}
 use Rattle.rules.proofs.Reading.{partRules, parts-reads}
 
@@ -33,6 +34,8 @@ Dotless company = Unit
 Dotless (digits b n) = Unit
 Dotless (integer b) = Unit
 Dotless (string b) = ⊥
+Dotless (atMost b n) = Unit
+Dotless (numeric b n) = Unit
 
 abbrev Separable : Layout → Type 0
 Separable (part r f k) = Dotless f × ((p : List ℕ) → Separable (k p))
@@ -43,6 +46,8 @@ clear company p d h = no-dots p (h .symbols)
 clear (digits b n) p d h = no-dots p (h .symbols)
 clear (integer b) p d h = no-dots p (h .symbols)
 clear (string b) p d h = absurd d
+clear (atMost b n) p d h = no-dots p (h .symbols)
+clear (numeric b n) p d h = no-dots p (h .symbols)
 
 parts-of : {l : Layout} {ps : List (List ℕ)} → Fits l ps → Separable l → partsIn l (written l ps) ≡ taken ps
 parts-of (one {f = f} {p = p} h) s = rw (formed-at f p (h .symbols) (h .shape), is-true (sized f p) (h .size))
@@ -52,7 +57,7 @@ parts-of (more {f = f} {k = k} {p = p} {ps = ps} h i) s =
     rw (among-of dot u (spelled f p), upto-of dot u (spelled f p) c, behind-of dot u (spelled f p) c, formed-at f p (h .symbols) (h .shape), is-true (sized f p) (h .size), parts-of i (s .1 p))
 
 body-separable : (body : Body) (n : ℕ) → Separable (bodyLayout body n)
-body-separable (Then t l) n = (tt, λ _. tt)
+body-separable (Then t l) n = let c = cell t (rowOf n) in (by-count Dotless t (c .0) (c .1) tt tt, λ _. tt)
 body-separable (Zeros t z) n = tt
 body-separable E n = tt
 
@@ -104,6 +109,9 @@ named-of Gsrnp96 v = refl
 named-of Gdti96 v = refl
 named-of Gdti174 v = refl
 named-of Gid96 v = refl
+named-of Gdti113 v = refl
+named-of Sgcn96 v = refl
+named-of Cpi96 v = refl
 
 -- The whole text.
 module _ (t : List ℕ) (s : Scheme) (v : List ℕ) (e : IsNamed t s v) where

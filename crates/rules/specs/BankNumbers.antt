@@ -9,7 +9,7 @@ use Rattle.numeral.specs.Numeral.{value, numeral, spread, gather, shortest}
 use Rattle.rules.specs.Answers.{Answer, taken, _>>=_, _>>_, demand, given, numberOf}
 use Rattle.rules.specs.Bytes.{all}
 use Rattle.rules.specs.declared.Scheme.{Scheme}
-use Rattle.rules.specs.Schemes.{Form, company, digits, integer, string, schemes, about, words, zeroBits, rowAt, prefixBits, prefixDigits}
+use Rattle.rules.specs.Schemes.{Form, company, digits, integer, string, atMost, numeric, schemes, about, words, zeroBits, rowAt, prefixBits, prefixDigits}
 use Rattle.rules.specs.Characters.{character}
 use Rattle.rules.specs.Grammar.{Layout, part, end, layout, Tag}
 use Rattle.rules.specs.Coding.{at, wordCount, bankSize}
@@ -44,7 +44,19 @@ stringIn gs = do
   demand (ltb 0 (length cs) && all character cs) 19
   taken cs
 
--- 16: the partition value; 17: the company prefix; 18: the reference of A to D
+-- the digits behind a 1
+abbrev pub behindOne : List ℕ → Option (List ℕ)
+behindOne [] = none
+behindOne (d ∷ ds) = cond (eqb d 1) (some ds) none
+
+-- 19: the numeric string in a numeral, a 1 and 1 to n digits
+abbrev pub numericIn : ℕ → List ℕ → Answer (List ℕ)
+numericIn n l = do
+  ds ← given (behindOne l) 19
+  demand (ltb 0 (length ds) && leb (length ds) n) 19
+  taken ds
+
+-- 16: the partition value; 17: the company prefix; 18: the reference of A to D, and of cpi-96's table
 abbrev pub fieldIn : Form → List ℕ → Answer Field
 fieldIn company l = do
   let P = value 2 (take 3 l)
@@ -55,6 +67,13 @@ fieldIn (integer b) l = taken (field (shortest 10 (value 2 (take b l))) b l)
 fieldIn (string b) l = do
   cs ← stringIn (gather 2 7 (b / 7) (take b l))
   taken (field cs b l)
+fieldIn (atMost b n) l = do
+  let v = value 2 (take b l)
+  demand (ltb v (10 ^ n)) 18
+  taken (field (shortest 10 v) b l)
+fieldIn (numeric b n) l = do
+  ds ← numericIn n (shortest 10 (value 2 (take b l)))
+  taken (field ds b l)
 
 -- bits are taken in order
 abbrev pub fieldsIn : Layout → List ℕ → Answer (List (List ℕ))

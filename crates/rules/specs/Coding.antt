@@ -5,7 +5,7 @@ use mathlib.Core.List.{List, [], _∷_, _++_}
 use lib.ListN.{length, take, drop, replicate}
 use Rattle.numeral.specs.Numeral.{value, numeral, spread, gather}
 use Rattle.rules.specs.declared.Scheme.{Scheme}
-use Rattle.rules.specs.Schemes.{Form, company, digits, integer, string, about, words, partition, rowOf, prefixBits}
+use Rattle.rules.specs.Schemes.{Form, company, digits, integer, string, atMost, numeric, about, words, partition, rowOf, prefixBits}
 use Rattle.rules.specs.Grammar.{Layout, part, end, layout, Tag, Fits}
 
 abbrev pub binary : ℕ → ℕ → List ℕ
@@ -20,6 +20,8 @@ partBits company ds = binary 3 (partition (length ds)) ++ binary (prefixBits (ro
 partBits (digits b n) ds = binary b (value 10 ds)
 partBits (integer b) ds = binary b (value 10 ds)
 partBits (string b) cs = filled b (spread 2 7 cs)
+partBits (atMost b n) ds = binary b (value 10 ds)
+partBits (numeric b n) ds = binary b (value 10 (1 ∷ ds))
 
 abbrev pub coded : Layout → List (List ℕ) → List ℕ
 coded (part r f k) [] = []

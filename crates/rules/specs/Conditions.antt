@@ -1,4 +1,4 @@
--- When each number applies, by itself and in document 01's words ("Numbers given, and when"), apart from the readers of TextNumbers and BankNumbers.
+-- When each number applies, by itself and in the words of document 01 ("Numbers given, and when") and document 02 (C-11), apart from the readers of TextNumbers and BankNumbers.
 use Prim.Native.Nat.{ℕ, _+_, _-_, _*_, _/_, _^_, _≤_, _<_}
 use mathlib.Core.Path.{_≡_}
 use mathlib.Core.Logic.{_⊎_}
@@ -8,12 +8,12 @@ use lib.ListN.{length}
 use Rattle.numeral.specs.Numeral.{value, Digits}
 use Rattle.rules.specs.Bytes.{all, among, upto, behind, dot, digitsText}
 use Rattle.rules.specs.declared.Scheme.{Scheme}
-use Rattle.rules.specs.declared.Last.the-variants.{Integer, String}
+use Rattle.rules.specs.declared.Last.the-variants.{Integer, String, Numeric}
 use Rattle.rules.specs.declared.Body.{Body}
 use Rattle.rules.specs.declared.Body.the-variants.{Then, Zeros, E}
 use Rattle.rules.specs.declared.Parts.{Parts}
 use Rattle.rules.specs.declared.Parts.the-variants.{F, Integers}
-use Rattle.rules.specs.Schemes.{Form, company, digits, integer, string, lastForm, Row, Cell, cell, rowDigits, assetBits, prefixBits, prefixDigits, rowAt, rowOf, about, words, zeroBits}
+use Rattle.rules.specs.Schemes.{Form, company, digits, integer, string, atMost, numeric, lastForm, Row, Cell, cell, rowDigits, assetBits, prefixBits, prefixDigits, rowAt, rowOf, about, words, zeroBits}
 use Rattle.rules.specs.Characters.{character, stringText}
 use Rattle.rules.specs.Grammar.{start, label}
 use Rattle.rules.specs.Coding.{at, wordCount}
@@ -46,19 +46,23 @@ pub data Whole : List ℕ → Type 0 where
 abbrev pub Spelled : List ℕ → List ℕ → Type 0
 Spelled x cs = T (all character cs) × (x ≡ stringText cs)
 
--- the text x has the form f, whatever its size; empty is no integer and no string
+-- the text x has the form f, whatever its size; empty is no integer, no string and no numeric string
 abbrev pub Formed : Form → List ℕ → Type 0
 Formed company x = (ds : List ℕ) × Decimal x ds × (6 ≤ length ds) × (length ds ≤ 12)
 Formed (digits b n) x = (ds : List ℕ) × Decimal x ds × (length ds ≡ n)
 Formed (integer b) x = (ds : List ℕ) × Decimal x ds × Whole ds
 Formed (string b) x = (cs : List ℕ) × Spelled x cs × (0 < length cs)
+Formed (atMost b n) x = (ds : List ℕ) × Decimal x ds × Whole ds × (length ds ≤ n)
+Formed (numeric b n) x = (ds : List ℕ) × Decimal x ds × (0 < length ds)
 
--- its value or its number of characters is too large
+-- its value, or its number of characters or digits, is too large
 abbrev pub TooLarge : Form → List ℕ → Type 0
 TooLarge company x = ⊥
 TooLarge (digits b n) x = ⊥
 TooLarge (integer b) x = (ds : List ℕ) × Decimal x ds × (2 ^ b ≤ value 10 ds)
 TooLarge (string b) x = (cs : List ℕ) × Spelled x cs × (b / 7 < length cs)
+TooLarge (atMost b n) x = ⊥
+TooLarge (numeric b n) x = (ds : List ℕ) × Decimal x ds × (n < length ds)
 
 -- the run of u up to the next dot is such a part, and there is a dot
 abbrev pub Stands : Form → List ℕ → Type 0
@@ -85,8 +89,8 @@ NoPrefix (Integers a b c) u = ¬ (Stands (integer a) u)
 abbrev pub OfRow : List ℕ → (ℕ → List ℕ → Type 0) → Type 0
 OfRow u Q = let v = behind dot u in Q (length (upto dot v)) (behind dot v)
 
--- 6: reference (A to D) is not the row's digits followed by a dot, or by the end for table B;
--- for gid-96, the run up to the next dot is no integer below 2^24, or there is no dot
+-- 6: reference (A to D) is not the row's digits followed by a dot, or by the end for table B; cpi-96's is no integer of at most the row's
+-- digits followed by a dot; for gid-96, the run up to the next dot is no integer below 2^24, or there is no dot
 abbrev pub NoCell : Body → ℕ → List ℕ → Type 0
 NoCell (Then t l) n w = ¬ (Stands (rowDigits t (rowOf n)) w)
 NoCell (Zeros t z) n w = ¬ (Formed (rowDigits t (rowOf n)) w)
@@ -117,7 +121,7 @@ textRules t =
     rule 6 (OfText t NoReference) ∷
     -- last part has the wrong form, empty included
     rule 7 (OfText t (OfLast λ f x. ¬ (Formed f x))) ∷
-    -- last part's value or number of characters is too large
+    -- last part's value, or its number of characters or digits, is too large
     rule 8 (OfText t (OfLast TooLarge)) ∷ []
 
 -- BANK TO TEXT
@@ -146,7 +150,7 @@ abbrev pub LargePrefix : List ℕ → Parts → Type 0
 LargePrefix b (F body) = 10 ^ prefixDigits (rowIn b) ≤ at b 0x2E (prefixBits (rowIn b))
 LargePrefix b (Integers m n k) = ⊥
 
--- 18: reference of A to D is 10^digits or more; with 0 digits, not 0
+-- 18: reference of A to D, or of cpi-96's table, is 10^digits or more; with 0 digits, not 0
 abbrev pub LargeCell : List ℕ → Cell → Type 0
 LargeCell b c = 10 ^ c .1 ≤ at b (0x2E + prefixBits (rowIn b)) (c .0)
 
@@ -163,10 +167,15 @@ WrongGroups k group =
     ⊎ ((i : ℕ) × (j : ℕ) × (i < j) × (j < k) × (group i ≡ 0) × (¬ (group j ≡ 0)))
     ⊎ ((i : ℕ) × (i < k) × (¬ (group i ≡ 0)) × (¬ T (character (group i))))
 
--- a string that ends at code bit n; its first group stands at its first bit
+-- 19: integer doesn't read as a 1 and 1 to n digits
+abbrev pub OneThen : ℕ → ℕ → Type 0
+OneThen n v = (ds : List ℕ) × Digits 10 ds × (0 < length ds) × (length ds ≤ n) × (v ≡ value 10 (1 ∷ ds))
+
+-- a string, or a numeric string, that ends at code bit n; a string's first group stands at its first bit
 abbrev pub WrongLast : List ℕ → ℕ → Parts → Type 0
 WrongLast b n (F (Then t (Integer m))) = ⊥
 WrongLast b n (F (Then t (String m))) = WrongGroups (m / 7) λ i. at b (0x20 + (n - m) + 7 * i) 7
+WrongLast b n (F (Then t (Numeric m k))) = ¬ (OneThen k (at b (0x20 + (n - m)) m))
 WrongLast b n (F (Zeros t z)) = ⊥
 WrongLast b n (F E) = ⊥
 WrongLast b n (Integers m k l) = ⊥

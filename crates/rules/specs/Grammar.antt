@@ -12,7 +12,7 @@ use Rattle.rules.specs.declared.Body.{Body}
 use Rattle.rules.specs.declared.Body.the-variants.{Then, Zeros, E}
 use Rattle.rules.specs.declared.Parts.{Parts}
 use Rattle.rules.specs.declared.Parts.the-variants.{F, Integers}
-use Rattle.rules.specs.Schemes.{Form, company, digits, integer, string, rowDigits, assetBits, rowOf, lastForm, about}
+use Rattle.rules.specs.Schemes.{Form, company, digits, integer, string, atMost, numeric, rowDigits, assetBits, rowOf, lastForm, about}
 use Rattle.rules.specs.Characters.{character, stringText}
 
 -- What a part is in its tag. The first two integers of gid-96 stand where others have the prefix and the reference.
@@ -51,6 +51,8 @@ symbol company = digit
 symbol (digits b n) = digit
 symbol (integer b) = digit
 symbol (string b) = character
+symbol (atMost b n) = digit
+symbol (numeric b n) = digit
 
 -- `0`, or digits with no leading zero
 abbrev pub plainNumber : List ℕ → Bool
@@ -63,12 +65,16 @@ shaped company ds = leb 6 (length ds) && leb (length ds) 12
 shaped (digits b n) ds = eqb (length ds) n
 shaped (integer b) ds = plainNumber ds
 shaped (string b) cs = ltb 0 (length cs)
+shaped (atMost b n) ds = plainNumber ds && leb (length ds) n
+shaped (numeric b n) ds = ltb 0 (length ds)
 
 abbrev pub sized : Form → List ℕ → Bool
 sized company ds = true
 sized (digits b n) ds = true
 sized (integer b) ds = ltb (value 10 ds) (2 ^ b)
 sized (string b) cs = leb (length cs) (b / 7)
+sized (atMost b n) ds = true
+sized (numeric b n) ds = leb (length ds) n
 
 pub record Fit (f : Form) (p : List ℕ) : Type 0 where
   pub symbols : T (all (symbol f) p)
@@ -90,6 +96,8 @@ spelled company = digitsText
 spelled (digits b n) = digitsText
 spelled (integer b) = digitsText
 spelled (string b) = stringText
+spelled (atMost b n) = digitsText
+spelled (numeric b n) = digitsText
 
 -- the parts, joined by dots
 abbrev pub written : Layout → List (List ℕ) → List ℕ

@@ -8,7 +8,7 @@ use lib.Dec.{leb, eqb}
 use Rattle.rules.specs.Answers.{Answer, taken, _>>=_, _>>_, demand, given, numberOf}
 use Rattle.rules.specs.Bytes.{among, upto, behind, dot, percent, hexDigit}
 use Rattle.rules.specs.declared.Scheme.{Scheme}
-use Rattle.rules.specs.Schemes.{Form, company, digits, integer, string, schemes}
+use Rattle.rules.specs.Schemes.{Form, company, digits, integer, string, atMost, numeric, schemes}
 use Rattle.rules.specs.Characters.{escaped, plain}
 use Rattle.rules.specs.Grammar.{Role, filter, prefix, reference, last, Layout, part, end, layout, shaped, sized, Tag, start, label}
 
@@ -66,6 +66,8 @@ symbolsIn company = digitsIn
 symbolsIn (digits b n) = digitsIn
 symbolsIn (integer b) = digitsIn
 symbolsIn (string b) = charactersIn
+symbolsIn (atMost b n) = digitsIn
+symbolsIn (numeric b n) = digitsIn
 
 -- the part that a text of this form is, whatever its size
 abbrev pub kept : (List ℕ → Bool) → Option (List ℕ) → Option (List ℕ)

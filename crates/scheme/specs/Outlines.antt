@@ -2,12 +2,13 @@
 use Prim.Native.Nat.{ℕ, _*_, _/_, _≤_, _<_}
 use mathlib.Core.Path.{_≡_}
 use mathlib.Core.Option.{Option, none, some}
+use lib.Dec.{T}
 use Rattle.rules.specs.declared.Scheme.{Scheme}
-use Rattle.rules.specs.declared.Last.the-variants.{Integer, String}
+use Rattle.rules.specs.declared.Last.the-variants.{Integer, String, Numeric}
 use Rattle.rules.specs.declared.Body.the-variants.{Then, Zeros, E}
 use Rattle.rules.specs.declared.Parts.{Parts}
 use Rattle.rules.specs.declared.Parts.the-variants.{F, Integers}
-use Rattle.rules.specs.Schemes.{schemes, about, words}
+use Rattle.rules.specs.Schemes.{exact, schemes, about, words}
 use Rattle.rules.specs.BankNumbers.{headed}
 use Rattle.scheme.specs.declared.outlines.Outline.{Outline}
 use Rattle.scheme.specs.declared.outlines.Headed.{Headed}
@@ -16,11 +17,13 @@ use Rattle.scheme.specs.declared.outlines.Headed.the-variants.{Is, Unlis
 abbrev pub outlineOf : Scheme → Outline
 outlineOf s = record { header = about s .header; bits = about s .bits; words = words s; parts = about s .parts }
 
--- what the code needs of the widths: an integer has at most 57 bits; a string is 1 to 20 whole groups of seven bits; at most 24 zero bits follow
+-- what the code needs of the widths: an integer has at most 57 bits; a string is 1 to 20 whole groups of seven bits; a numeric string has
+-- 32 to 62 bits and at most 17 digits; at most 24 zero bits follow, and those behind exactly the row's digits
 abbrev pub Narrow : Parts → Type 0
 Narrow (F (Then t (Integer n))) = n ≤ 57
 Narrow (F (Then t (String n))) = (n ≡ 7 * (n / 7)) × (0 < n / 7) × (n / 7 ≤ 20)
-Narrow (F (Zeros t n)) = n ≤ 24
+Narrow (F (Then t (Numeric n k))) = (32 ≤ n) × (n ≤ 62) × (k ≤ 17)
+Narrow (F (Zeros t n)) = (n ≤ 24) × T (exact t)
 Narrow (F E) = Unit
 Narrow (Integers a b c) = (a ≤ 57) × (b ≤ 57) × (c ≤ 57)
 

@@ -6,7 +6,7 @@ use lib.ListN.{length, getD, take, drop, replicate}
 use Rattle.numeral.specs.Numeral.{value}
 use Rattle.rules.specs.declared.Scheme.the-variants.{Sgtin96}
 use Rattle.rules.specs.declared.Last.{Last}
-use Rattle.rules.specs.declared.Last.the-variants.{Integer, String}
+use Rattle.rules.specs.declared.Last.the-variants.{Integer, String, Numeric}
 use Rattle.rules.specs.declared.Body.the-variants.{Then, Zeros, E}
 use Rattle.rules.specs.declared.Parts.{Parts}
 use Rattle.rules.specs.declared.Parts.the-variants.{F, Integers}
@@ -41,10 +41,11 @@ referenceOf (F (Zeros t z)) ps = valueAt ps 2
 referenceOf (F E) ps = 0
 referenceOf (Integers a b c) ps = valueAt ps 1
 
--- a last part that is an integer
+-- a last part that is an integer, or the digits of a numeric string
 abbrev pub lastNumber : Last → List ℕ → ℕ
 lastNumber (Integer b) p = value 10 p
 lastNumber (String b) p = 0
+lastNumber (Numeric b n) p = value 10 p
 
 abbrev pub serialOf : Parts → List (List ℕ) → ℕ
 serialOf (F (Then t l)) ps = lastNumber l (partAt ps 3)
@@ -56,12 +57,25 @@ serialOf (Integers a b c) ps = valueAt ps 2
 abbrev pub lastCharacters : Last → List ℕ → List ℕ
 lastCharacters (Integer b) p = []
 lastCharacters (String b) p = p
+lastCharacters (Numeric b n) p = []
 
 abbrev pub charactersOf : Parts → List (List ℕ) → List ℕ
 charactersOf (F (Then t l)) ps = lastCharacters l (partAt ps 3)
 charactersOf (F (Zeros t z)) ps = []
 charactersOf (F E) ps = []
 charactersOf (Integers a b c) ps = []
+
+-- how many characters a string has, or digits a numeric string
+abbrev pub lastCount : Last → List ℕ → ℕ
+lastCount (Integer b) p = 0
+lastCount (String b) p = length p
+lastCount (Numeric b n) p = length p
+
+abbrev pub countOf : Parts → List (List ℕ) → ℕ
+countOf (F (Then t l)) ps = lastCount l (partAt ps 3)
+countOf (F (Zeros t z)) ps = 0
+countOf (F E) ps = 0
+countOf (Integers a b c) ps = 0
 
 -- twenty places, zeros behind the characters
 abbrev pub padded : List ℕ → List ℕ
@@ -79,7 +93,7 @@ recordOf τ =
       reference = referenceOf p ps;
       serial = serialOf p ps;
       characters = padded (charactersOf p ps);
-      count = length (charactersOf p ps);
+      count = countOf p ps;
     }
 
 -- r is the record of the tag τ, whose parts keep the limits

@@ -1,5 +1,7 @@
-// The table of schemes, by scheme and by header (document 01, "The thirteen schemes").
+// The table of schemes, by scheme and by header (document 01, "The thirteen schemes", and document 02, C-11).
+use super::types::Cpi96;
 use super::types::Gdti96;
+use super::types::Gdti113;
 use super::types::Gdti174;
 use super::types::Giai96;
 use super::types::Gid96;
@@ -7,6 +9,7 @@ use super::types::Grai96;
 use super::types::Grai170;
 use super::types::Gsrn96;
 use super::types::Gsrnp96;
+use super::types::Sgcn96;
 use super::types::Sgln96;
 use super::types::Sgln195;
 use super::types::Sgtin96;
@@ -111,6 +114,24 @@ pub fn about(s: Scheme) -> Outline
             words: Gid96::WORDS,
             parts: Parts::Integers(28, 24, 36),
         },
+        Scheme::Gdti113 => Outline {
+            header: Gdti113::HEADER,
+            bits: Gdti113::BITS,
+            words: Gdti113::WORDS,
+            parts: Parts::F(Body::Then(Table::D, Last::Numeric(58, 17))),
+        },
+        Scheme::Sgcn96 => Outline {
+            header: Sgcn96::HEADER,
+            bits: Sgcn96::BITS,
+            words: Sgcn96::WORDS,
+            parts: Parts::F(Body::Then(Table::D, Last::Numeric(41, 12))),
+        },
+        Scheme::Cpi96 => Outline {
+            header: Cpi96::HEADER,
+            bits: Cpi96::BITS,
+            words: Cpi96::WORDS,
+            parts: Parts::F(Body::Then(Table::Cpi, Last::Integer(31))),
+        },
     }
 }
 
@@ -138,6 +159,9 @@ pub fn by_header(h: u8) -> Headed
         Gdti96::HEADER => Headed::Is(Gdti96::new()),
         Gdti174::HEADER => Headed::Is(Gdti174::new()),
         Gid96::HEADER => Headed::Is(Gid96::new()),
+        Gdti113::HEADER => Headed::Is(Gdti113::new()),
+        Sgcn96::HEADER => Headed::Is(Sgcn96::new()),
+        Cpi96::HEADER => Headed::Is(Cpi96::new()),
         _ => Headed::Unlisted,
     }
 }

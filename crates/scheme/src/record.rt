@@ -5,7 +5,8 @@ ghost use mathlib.Core.Path.{_≡_};
 ghost use Rattle.scheme.specs.Records.{refusal};
 
 // `digits` are those of the prefix. What a scheme has no part for is 0, so that a tag has one record: gid-96's three integers are
-// prefix, reference and serial, and giai-96's reference, its last part, is the serial.
+// prefix, reference and serial, and giai-96's reference, its last part, is the serial. `count` says how many characters a string has, or
+// how many digits a numeric string, whose value is the serial.
 pub struct Record {
     pub scheme: Scheme,
     pub filter: u64,

@@ -1,8 +1,8 @@
-// The rows of the partition tables (document 01, "The thirteen schemes"): by partition value, and by the digits of a company prefix.
+// The rows of the partition tables (document 01, "The thirteen schemes", and document 02, C-11): by partition value, and by the digits of a company prefix.
 use rules::Table;
 ghost use mathlib.Core.Path.{_≡_};
 ghost use Prim.Native.Nat.{_≤_, _<_};
-ghost use Rattle.rules.specs.Schemes.{partition, rowAt, assetBits};
+ghost use Rattle.rules.specs.Schemes.{partition, rowAt, exact as isExact, assetBits};
 ghost use Rattle.scheme.specs.Rows.{prefixOf, referenceOf};
 
 // The columns of the partition tables, indexed by P, 0 to 6.
@@ -27,6 +27,10 @@ const D_BITS: [usize; 7] = [1, 4, 7, 11, 14, 17, 21];
 const D_DIGITS: [usize; 7] = [0, 1, 2, 3, 4, 5, 6];
 
 const E_BITS: [usize; 7] = [42, 45, 48, 52, 55, 58, 62];
+
+const CPI_BITS: [usize; 7] = [11, 14, 17, 21, 24, 27, 31];
+
+const CPI_DIGITS: [usize; 7] = [3, 4, 5, 6, 7, 8, 9];
 
 // A cell of a row: bits and digits.
 pub struct Cell {
@@ -53,7 +57,7 @@ pub fn prefix(p: usize) -> Cell
     }
 }
 
-// The reference of a row in one of the tables A to D.
+// The reference of a row in one of the tables A to D, or in cpi-96's own.
 pub fn reference(t: Table, p: usize) -> Cell
     requires { ⌜ p < 7 ⌝ }
     ensures { λ r. ⌜ r ≡ referenceOf t (rowAt p) ⌝ }
@@ -75,6 +79,23 @@ pub fn reference(t: Table, p: usize) -> Cell
             bits: D_BITS[p],
             digits: D_DIGITS[p],
         },
+        Table::Cpi => Cell {
+            bits: CPI_BITS[p],
+            digits: CPI_DIGITS[p],
+        },
+    }
+}
+
+// Whether the references of a table have exactly the row's digits; cpi-96's are integers of at most so many.
+pub fn exact(t: Table) -> bool
+    ensures { λ r. ⌜ r ≡ isExact t ⌝ }
+{
+    match t {
+        Table::A => true,
+        Table::B => true,
+        Table::C => true,
+        Table::D => true,
+        Table::Cpi => false,
     }
 }
 

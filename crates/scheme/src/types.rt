@@ -1,5 +1,5 @@
 // A type for each scheme, with its header, its bit total and its word count as associated constants, and its constructor
-// (document 01, "The thirteen schemes"). The code has these numbers from here.
+// (document 01, "The thirteen schemes", and document 02, C-11). The code has these numbers from here.
 use rules::Scheme;
 ghost use mathlib.Core.Path.{_≡_};
 
@@ -208,5 +208,53 @@ impl Gid96 {
         ensures { λ r. ⌜ r ≡ Scheme.Gid96 ⌝ }
     {
         Scheme::Gid96
+    }
+}
+
+pub struct Gdti113;
+
+impl Gdti113 {
+    pub const HEADER: u8 = 0x3A;
+
+    pub const BITS: usize = 113;
+
+    pub const WORDS: usize = (Gdti113::BITS + 15) / 16;
+
+    pub fn new() -> Scheme
+        ensures { λ r. ⌜ r ≡ Scheme.Gdti113 ⌝ }
+    {
+        Scheme::Gdti113
+    }
+}
+
+pub struct Sgcn96;
+
+impl Sgcn96 {
+    pub const HEADER: u8 = 0x3F;
+
+    pub const BITS: usize = 96;
+
+    pub const WORDS: usize = (Sgcn96::BITS + 15) / 16;
+
+    pub fn new() -> Scheme
+        ensures { λ r. ⌜ r ≡ Scheme.Sgcn96 ⌝ }
+    {
+        Scheme::Sgcn96
+    }
+}
+
+pub struct Cpi96;
+
+impl Cpi96 {
+    pub const HEADER: u8 = 0x3C;
+
+    pub const BITS: usize = 96;
+
+    pub const WORDS: usize = (Cpi96::BITS + 15) / 16;
+
+    pub fn new() -> Scheme
+        ensures { λ r. ⌜ r ≡ Scheme.Cpi96 ⌝ }
+    {
+        Scheme::Cpi96
     }
 }

@@ -1,23 +1,29 @@
 -- A reference and a last part, from what is read of each.
-use Prim.Native.Nat.{ℕ, _/_, _≤_, _<_}
+use Prim.Native.Nat.{ℕ, _-_, _/_, _≤_, _<_}
 use mathlib.Core.Path.{_≡_, refl, sym, ap, _∙_}
+use mathlib.Core.Bool.{Bool, true, false, cond}
 use mathlib.Core.List.{List, [], _∷_}
 use mathlib.Core.Option.{Option, none, some}
 use native.Mathlib.Omega.{arith}
-use lib.ListN.{length, drop, replicate}
+use lib.Dec.{T, lit<}
+use lib.ListN.{length, drop, replicate, length-drop}
 use borrow.Author.Tests.{lt-ltb, le-leb, lt-leb}
 use Rattle.numeral.specs.Numeral.{value}
 use Rattle.rules.specs.Answers.{Answer, refused, taken, _>>=_}
 use Rattle.rules.specs.Bytes.{behind, dot}
+use Rattle.rules.specs.declared.Table.{Table}
 use Rattle.rules.specs.declared.Last.{Last}
-use Rattle.rules.specs.declared.Last.the-variants.{Integer, String}
-use Rattle.rules.specs.Schemes.{Form, digits, integer, string, lastForm}
+use Rattle.rules.specs.declared.Last.the-variants.{Integer, String, Numeric}
+use Rattle.rules.specs.Schemes.{Form, digits, integer, string, atMost, numeric, exact, counted, lastForm}
+use Rattle.rules.specs.Grammar.{reference, end}
 use Rattle.rules.specs.TextNumbers.{charactersIn, partIn, lastIn, partsIn}
+use Rattle.rules.proofs.Tests.{is-true}
+use Rattle.rules.proofs.Reading.{last-reads}
+use Rattle.digits.proofs.Texts.{length-text}
 use Rattle.alphabet.specs.declared.Spelled.{Spelled}
 use Rattle.alphabet.specs.Strings.{spelledOf}
-use Rattle.scheme.specs.Records.{lastNumber, lastCharacters, padded, refusal}
+use Rattle.scheme.specs.Records.{lastNumber, lastCharacters, lastCount, padded, refusal}
 use Rattle.parts.specs.declared.parts.Form.{Form as CodeForm}
-use Rattle.parts.specs.declared.parts.Form.the-variants.{Digits}
 use Rattle.parts.specs.declared.parts.End.the-variants.{Is, Refused}
 use Rattle.text.specs.declared.reading.Head.{Head}
 use Rattle.parts.specs.Parts.{formOf}
@@ -34,7 +40,7 @@ module _ (h : Head) (f : Form) (l : Last) (u : List ℕ) where
     no-last : (n : ℕ) → lastIn 7 (lastForm l) w ≡ refused n → refusal n ≡ withLast h l (partsIn (referred f (lastForm l)) u)
     no-last n e = rw (read, sym rest, e)
 
-    with-last : (q : List ℕ) → lastIn 7 (lastForm l) w ≡ taken q → tagged h (value 10 p) (lastNumber l q) (lastCharacters l q) ≡ withLast h l (partsIn (referred f (lastForm l)) u)
+    with-last : (q : List ℕ) → lastIn 7 (lastForm l) w ≡ taken q → tagged h (value 10 p) (lastNumber l q) (lastCharacters l q) (lastCount l q) ≡ withLast h l (partsIn (referred f (lastForm l)) u)
     with-last q e = rw (read, sym rest, e)
 
 -- the same from the code's parts: an integer
@@ -46,6 +52,21 @@ module _ (h : Head) (f : CodeForm) (b : ℕ) (text : List ℕ) (at v d m : ℕ) 
   integer-taken k e =
       let (q, r, x) = last-is k (lastIn 7 (integer b) (drop m text)) e in
       rw (s .value-is, x) (with-last h (formOf f) (Integer b) (drop at text) (s .part) (drop m text) (s .read) (s .rest) q r)
+
+-- a numeric string has as many digits as the rest of the text has bytes
+all-of-it : (n : ℕ) (u q : List ℕ) → lastIn 7 (numeric 0 n) u ≡ taken q → length u ≡ length q
+all-of-it n u q e = let r = rw e at (last-reads 7 (numeric 0 n) u (lit< tt)) in ap length (r .1 .1) ∙ length-text q
+
+module _ (h : Head) (f : CodeForm) (n : ℕ) (text : List ℕ) (at v d m : ℕ) (s : Standing 6 f text at v d m) where
+  pub numeric-refused : (k : ℕ) → Refused k ≡ endOf (lastIn 7 (numeric 0 n) (drop m text)) → refusal k ≡ withLast h (Numeric 0 n) (partsIn (referred (formOf f) (numeric 0 n)) (drop at text))
+  numeric-refused k e = no-last h (formOf f) (Numeric 0 n) (drop at text) (s .part) (drop m text) (s .read) (s .rest) k (last-refused k (lastIn 7 (numeric 0 n) (drop m text)) e)
+
+  pub numeric-taken : (k : ℕ) → Is k ≡ endOf (lastIn 7 (numeric 0 n) (drop m text)) → taggedWith h v k (replicate 20 0) (length text - m) ≡ withLast h (Numeric 0 n) (partsIn (referred (formOf f) (numeric 0 n)) (drop at text))
+  numeric-taken k e =
+      let (q, r, x) = last-is k (lastIn 7 (numeric 0 n) (drop m text)) e in
+      let c : length text - m ≡ length q = sym (length-drop m text) ∙ all-of-it n (drop m text) q r in
+      rw (s .value-is, x, c)
+      (with-last h (formOf f) (Numeric 0 n) (drop at text) (s .part) (drop m text) (s .read) (s .rest) q r)
 
 -- a string that is the last part
 module _ (b : ℕ) (w : List ℕ) (s : Spelled) (e : s ≡ spelledOf (charactersIn w)) where
@@ -75,18 +96,18 @@ module _ (b : ℕ) (w : List ℕ) (s : Spelled) (e : s ≡ spelledOf (characters
           let k : s .count ≡ length cs = ap (λ x. x .count) e ∙ rw q in
           (cs, rw (q, lt-ltb 0 (length cs) (omega arith), le-leb (length cs) (b / 7) (omega arith)), ap (λ x. x .characters) e ∙ rw q, k)
 
--- and behind a reference of k digits
-module _ (h : Head) (k b : ℕ) (text : List ℕ) (at v d m : ℕ) (r : Standing 6 (Digits k) text at v d m) (s : Spelled) (e : s ≡ spelledOf (charactersIn (drop m text))) where
-  pub behind-none : s .count ≡ 0 → refusal 7 ≡ withLast h (String b) (partsIn (referred (digits 0 k) (string b)) (drop at text))
-  behind-none z = no-last h (digits 0 k) (String b) (drop at text) (r .part) (drop m text) (r .read) (r .rest) 7 (string-none b (drop m text) s e z)
+-- and behind a reference
+module _ (h : Head) (f : CodeForm) (b : ℕ) (text : List ℕ) (at v d m : ℕ) (r : Standing 6 f text at v d m) (s : Spelled) (e : s ≡ spelledOf (charactersIn (drop m text))) where
+  pub behind-none : s .count ≡ 0 → refusal 7 ≡ withLast h (String b) (partsIn (referred (formOf f) (string b)) (drop at text))
+  behind-none z = no-last h (formOf f) (String b) (drop at text) (r .part) (drop m text) (r .read) (r .rest) 7 (string-none b (drop m text) s e z)
 
-  pub behind-long : ¬ (s .count ≡ 0) → b / 7 < s .count → refusal 8 ≡ withLast h (String b) (partsIn (referred (digits 0 k) (string b)) (drop at text))
-  behind-long n l = no-last h (digits 0 k) (String b) (drop at text) (r .part) (drop m text) (r .read) (r .rest) 8 (string-long b (drop m text) s e n l)
+  pub behind-long : ¬ (s .count ≡ 0) → b / 7 < s .count → refusal 8 ≡ withLast h (String b) (partsIn (referred (formOf f) (string b)) (drop at text))
+  behind-long n l = no-last h (formOf f) (String b) (drop at text) (r .part) (drop m text) (r .read) (r .rest) 8 (string-long b (drop m text) s e n l)
 
-  pub behind-taken : ¬ (s .count ≡ 0) → s .count ≤ b / 7 → taggedWith h v 0 (s .characters) (s .count) ≡ withLast h (String b) (partsIn (referred (digits 0 k) (string b)) (drop at text))
+  pub behind-taken : ¬ (s .count ≡ 0) → s .count ≤ b / 7 → taggedWith h v 0 (s .characters) (s .count) ≡ withLast h (String b) (partsIn (referred (formOf f) (string b)) (drop at text))
   behind-taken n l =
       let (cs, q, x, y) = string-taken b (drop m text) s e n l in
-      (λ i. taggedWith h (r .value-is i) 0 (x i) (y i)) ∙ with-last h (digits 0 k) (String b) (drop at text) (r .part) (drop m text) (r .read) (r .rest) cs q
+      (λ i. taggedWith h (r .value-is i) 0 (x i) (y i)) ∙ with-last h (formOf f) (String b) (drop at text) (r .part) (drop m text) (r .read) (r .rest) cs q
 
 -- a reference that is the last part
 module _ (h : Head) where
@@ -106,3 +127,22 @@ module _ (h : Head) where
 
   pub no-asset : (m : ℕ) (a : Answer (List ℕ)) → Refused m ≡ endOf a → refusal m ≡ assetAlone h (one a)
   no-asset m a e = rw (last-refused m a e)
+
+-- the bits of a reference, and of a numeric string, play no part in the text
+row-read : (t : Table) (b n : ℕ) (g : Form) (u : List ℕ) → partsIn (referred (counted t 0 n) g) u ≡ partsIn (referred (counted t b n) g) u
+row-read t b n g u = go (exact t)
+  where
+    go : (e : Bool) → partsIn (referred (cond e (digits 0 n) (atMost 0 n)) g) u ≡ partsIn (referred (cond e (digits b n) (atMost b n)) g) u
+    go true = refl
+    go false = refl
+
+pub row-behind : (h : Head) (l : Last) (t : Table) (b n : ℕ) (f g : Form) (u : List ℕ) → f ≡ counted t 0 n
+    → withLast h l (partsIn (referred f g) u) ≡ withLast h l (partsIn (referred (counted t b n) g) u)
+row-behind h l t b n f g u e = ap (λ f. withLast h l (partsIn (referred f g) u)) e ∙ ap (withLast h l) (row-read t b n g u)
+
+pub row-alone : (t : Table) (b n : ℕ) (u : List ℕ) → T (exact t) → partsIn (end reference (digits 0 n)) u ≡ partsIn (end reference (counted t b n)) u
+row-alone t b n u h = rw (is-true (exact t) h)
+
+pub numeric-alike : (h : Head) (b n : ℕ) (a : Answer (List (List ℕ))) → withLast h (Numeric 0 n) a ≡ withLast h (Numeric b n) a
+numeric-alike h b n (refused k) = refl
+numeric-alike h b n (taken ps) = refl

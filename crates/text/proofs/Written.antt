@@ -1,6 +1,7 @@
 -- The text of a tag, by the values that its record holds; and that these are as small as the writers of its pieces ask.
 use Prim.Native.Nat.{ℕ, _/_, _≤_}
 use mathlib.Core.Path.{_≡_, refl, sym, ap, _∙_}
+use mathlib.Core.Bool.{Bool, true, false, cond}
 use mathlib.Core.List.{List, _++_, append-assoc}
 use native.Mathlib.Omega.{arith}
 use lib.Dec.{leb, leb→le, ltb→lt, eqb→eq}
@@ -8,13 +9,15 @@ use lib.ListN.{length, take, replicate, length-append}
 use lib.Seq.{take-at, take-take, length-take-le}
 use Rattle.numeral.specs.Numeral.{value, shortest, numeral}
 use Rattle.numeral.proofs.Values.{numeral-value, numeral-of-value}
-use Rattle.rules.specs.declared.Last.the-variants.{Integer, String}
+use Rattle.rules.specs.Bytes.{digitsText}
+use Rattle.rules.specs.declared.Table.{Table}
+use Rattle.rules.specs.declared.Last.the-variants.{Integer, String, Numeric}
 use Rattle.rules.specs.declared.Body.{Body}
 use Rattle.rules.specs.declared.Body.the-variants.{Then, Zeros, E}
 use Rattle.rules.specs.declared.Parts.{Parts}
 use Rattle.rules.specs.declared.Parts.the-variants.{F, Integers}
-use Rattle.rules.specs.Schemes.{digits, integer, assetBits, rowOf, cell, about}
-use Rattle.rules.specs.Grammar.{Tag, textOf, start, label, written, layout, Fit, Fits}
+use Rattle.rules.specs.Schemes.{digits, integer, atMost, exact, counted, assetBits, rowOf, cell, about}
+use Rattle.rules.specs.Grammar.{plainNumber, spelled, Tag, textOf, start, label, written, layout, Fit, Fits}
 use Rattle.rules.proofs.Tests.{both}
 use Rattle.rules.proofs.Decimals.{all-digits}
 use Rattle.rules.proofs.Numbers.{whole-of}
@@ -25,7 +28,7 @@ use Rattle.scheme.proofs.Widths.{parts-narrow}
 use Rattle.scheme.proofs.Shapes.{Partitioned, partitioned, reference-and-last, reference-alone, asset-alone, general}
 use Rattle.digits.proofs.Joins.{from-start}
 use Rattle.digits.specs.Pieces.{Puts}
-use Rattle.text.specs.Writing.{Company, HeldBehind, bodyText, integersText}
+use Rattle.text.specs.Writing.{Company, HeldBehind, integerText, numberText, bodyText, integersText}
 
 -- A part that fits is the numeral of its value.
 whole : (b : ℕ) (p : List ℕ) → Fit (integer b) p → shortest 10 (value 10 p) ≡ p
@@ -33,6 +36,14 @@ whole b p h = whole-of p (all-digits p (h .symbols)) (h .shape)
 
 filled : (b n : ℕ) (p : List ℕ) → Fit (digits b n) p → numeral 10 n (value 10 p) ≡ p
 filled b n p h = numeral-of-value 10 n p (all-digits p (h .symbols)) (eqb→eq (length p) n (h .shape))
+
+-- a reference, in the form that its table has
+reference-is : (t : Table) (b n : ℕ) (p : List ℕ) → Fit (counted t b n) p → cond (exact t) (numberText n (value 10 p)) (integerText (value 10 p)) ≡ spelled (counted t b n) p
+reference-is t b n p = go (exact t)
+  where
+    go : (e : Bool) → Fit (cond e (digits b n) (atMost b n)) p → cond e (numberText n (value 10 p)) (integerText (value 10 p)) ≡ spelled (cond e (digits b n) (atMost b n)) p
+    go true h = ap digitsText (filled b n p h)
+    go false h = ap digitsText (whole-of p (all-digits p (h .symbols)) (both (plainNumber p) (leb (length p) n) (h .shape) .0))
 
 length-padded : (cs : List ℕ) → length (padded cs) ≡ 20
 length-padded cs = length-take-le 20 (cs ++ replicate 20 0) (rw length-append (omega arith))
@@ -70,18 +81,24 @@ by-values τ (F (Then t (Integer n))) g k h =
     let w = partitioned (Then t (Integer n)) (rw g at h) in
     let m = length (w .prefix) in
     let (r, x, e, i, j) = reference-and-last t (Integer n) m (w .rest-fits) in
-    rw (g, w .parts, e, filter-is w, prefix-is w, filled _ (cell t (rowOf m) .1) r i, whole n x j) (simp append-assoc, (company w _ refl refl, tt))
+    rw (g, w .parts, e, filter-is w, prefix-is w, reference-is t (cell t (rowOf m) .0) (cell t (rowOf m) .1) r i, whole n x j) (simp append-assoc, (company w _ refl refl, tt))
 by-values τ (F (Then t (String n))) g k h =
     let w = partitioned (Then t (String n)) (rw g at h) in
     let m = length (w .prefix) in
     let (r, x, e, i, j) = reference-and-last t (String n) m (w .rest-fits) in
     let l : length x ≤ 20 = omega (arith, leb→le (length x) (n / 7) (j .size)) in
-    rw (g, w .parts, e, filter-is w, prefix-is w, filled _ (cell t (rowOf m) .1) r i, unpadded x l) (simp append-assoc, (company w _ refl refl, (l, length-padded x)))
+    rw (g, w .parts, e, filter-is w, prefix-is w, reference-is t (cell t (rowOf m) .0) (cell t (rowOf m) .1) r i, unpadded x l) (simp append-assoc, (company w _ refl refl, (l, length-padded x)))
+by-values τ (F (Then t (Numeric b n))) g k h =
+    let w = partitioned (Then t (Numeric b n)) (rw g at h) in
+    let m = length (w .prefix) in
+    let (r, x, e, i, j) = reference-and-last t (Numeric b n) m (w .rest-fits) in
+    let l : length x ≤ 20 = omega (arith, k, leb→le (length x) n (j .size)) in
+    rw (g, w .parts, e, filter-is w, prefix-is w, reference-is t (cell t (rowOf m) .0) (cell t (rowOf m) .1) r i, numeral-value 10 x (all-digits x (j .symbols))) (simp append-assoc, (company w _ refl refl, l))
 by-values τ (F (Zeros t n)) g k h =
     let w = partitioned (Zeros t n) (rw g at h) in
     let m = length (w .prefix) in
     let (r, e, i) = reference-alone t n m (w .rest-fits) in
-    rw (g, w .parts, e, filter-is w, prefix-is w, filled _ (cell t (rowOf m) .1) r i) (simp append-assoc, (company w _ refl refl, tt))
+    rw (g, w .parts, e, filter-is w, prefix-is w, reference-is t (cell t (rowOf m) .0) (cell t (rowOf m) .1) r i) (simp append-assoc, (company w _ refl refl, tt))
 by-values τ (F E) g k h =
     let w = partitioned E (rw g at h) in
     let m = length (w .prefix) in

@@ -1,7 +1,6 @@
 -- The parts of a text as the code holds them: what follows the company prefix, then the whole record.
 use Prim.Native.Nat.{ℕ}
 use mathlib.Core.List.{List, []}
-use lib.ListN.{length}
 use Rattle.rules.specs.declared.Scheme.{Scheme}
 use Rattle.rules.specs.declared.Last.{Last}
 use Rattle.rules.specs.declared.Body.{Body}
@@ -10,10 +9,10 @@ use Rattle.rules.specs.Answers.{Answer, refused, taken, _>>=_}
 use Rattle.rules.specs.Schemes.{Form}
 use Rattle.rules.specs.Grammar.{reference, last, Layout, part, end}
 use Rattle.scheme.specs.declared.record.Reading.{Reading}
-use Rattle.scheme.specs.Records.{partAt, valueAt, lastNumber, lastCharacters, padded, refusal, readingOf}
+use Rattle.scheme.specs.Records.{partAt, valueAt, lastNumber, lastCharacters, lastCount, padded, refusal, readingOf}
 use Rattle.text.specs.declared.reading.Head.{Head}
 
--- the record of what is read: its head, the reference, and the last part as an integer or as characters
+-- the record of what is read: its head, the reference, and the last part as a number, as characters, and their count
 abbrev pub taggedWith : Head → ℕ → ℕ → List ℕ → ℕ → Reading
 taggedWith h r n cs k = record {
   number = 0;
@@ -29,8 +28,8 @@ taggedWith h r n cs k = record {
   };
 }
 
-abbrev pub tagged : Head → ℕ → ℕ → List ℕ → Reading
-tagged h r n cs = taggedWith h r n (padded cs) (length cs)
+abbrev pub tagged : Head → ℕ → ℕ → List ℕ → ℕ → Reading
+tagged h r n cs k = taggedWith h r n (padded cs) k
 
 -- a reference with a dot behind it, and a last part
 abbrev pub referred : Form → Form → Layout
@@ -38,16 +37,16 @@ referred f g = part reference f λ _. end last g
 
 abbrev pub withLast : Head → Last → Answer (List (List ℕ)) → Reading
 withLast h l (refused n) = refusal n
-withLast h l (taken ps) = tagged h (valueAt ps 0) (lastNumber l (partAt ps 1)) (lastCharacters l (partAt ps 1))
+withLast h l (taken ps) = let p = partAt ps 1 in tagged h (valueAt ps 0) (lastNumber l p) (lastCharacters l p) (lastCount l p)
 
 -- a reference that ends the text: of A to D, or of E
 abbrev pub referenceAlone : Head → Answer (List (List ℕ)) → Reading
 referenceAlone h (refused n) = refusal n
-referenceAlone h (taken ps) = tagged h (valueAt ps 0) 0 []
+referenceAlone h (taken ps) = tagged h (valueAt ps 0) 0 [] 0
 
 abbrev pub assetAlone : Head → Answer (List (List ℕ)) → Reading
 assetAlone h (refused n) = refusal n
-assetAlone h (taken ps) = tagged h 0 (valueAt ps 0) []
+assetAlone h (taken ps) = tagged h 0 (valueAt ps 0) [] 0
 
 -- what follows the company prefix
 abbrev pub behindPrefix : Head → Body → Answer (List (List ℕ)) → Reading

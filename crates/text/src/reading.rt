@@ -6,6 +6,7 @@ use parts::Part;
 use parts::digits_to_end;
 use parts::integer_to_end;
 use parts::name;
+use parts::numeric_to_end;
 use parts::part_at;
 use rules::Body;
 use rules::Last;
@@ -22,7 +23,7 @@ use scheme::rows;
 ghost use mathlib.Core.Path.{_≡_};
 ghost use Prim.Native.Nat.{_≤_};
 ghost use lib.ListN.{length, drop};
-ghost use Rattle.rules.specs.Schemes.{digits, integer, string, rowOf, cell, about as aboutOf};
+ghost use Rattle.rules.specs.Schemes.{digits, integer, string, numeric, counted, rowOf, cell, about as aboutOf};
 ghost use Rattle.rules.specs.Grammar.{reference as referenceRole, last, end, bodyLayout, layout, start};
 ghost use Rattle.rules.specs.TextNumbers.{after, partsIn, tagOfText};
 ghost use Rattle.scheme.specs.Outlines.{Narrow};
@@ -88,12 +89,12 @@ fn with_integer(text: &[u8], at: usize, head: Head, reference: Form, bits: usize
     }
 }
 
-// A reference of so many digits, then a string.
-fn with_string(text: &[u8], at: usize, head: Head, reference: usize, bits: usize) -> Reading
-    requires { ⌜ (at ≤ length (now text)) × (reference ≤ 19) ⌝ }
-    ensures { λ r. ⌜ r ≡ withLast head (Last.String bits) (partsIn (referred (digits 0 reference) (string bits)) (drop at (now (text .entry)))) ⌝ }
+// A reference, then a string.
+fn with_string(text: &[u8], at: usize, head: Head, reference: Form, bits: usize) -> Reading
+    requires { ⌜ (at ≤ length (now text)) × Short reference ⌝ }
+    ensures { λ r. ⌜ r ≡ withLast head (Last.String bits) (partsIn (referred (formOf reference) (string bits)) (drop at (now (text .entry)))) ⌝ }
 {
-    let Part::Is(value, _, next) = part_at(text, at, Form::Digits(reference)) else {
+    let Part::Is(value, _, next) = part_at(text, at, reference) else {
         return refused(refusal::REFERENCE);
     };
     let s = alphabet::read(text, next);
@@ -105,6 +106,20 @@ fn with_string(text: &[u8], at: usize, head: Head, reference: usize, bits: usize
     }
     let characters = s.characters;
     tagged(head, value, 0, characters, s.count)
+}
+
+// A reference, then a numeric string of at most so many digits. It has as many as the rest of the text has bytes.
+fn with_numeric(text: &[u8], at: usize, head: Head, reference: Form, most: usize) -> Reading
+    requires { ⌜ (at ≤ length (now text)) × Short reference × (most ≤ 19) ⌝ }
+    ensures { λ r. ⌜ r ≡ withLast head (Last.Numeric 0 most) (partsIn (referred (formOf reference) (numeric 0 most)) (drop at (now (text .entry)))) ⌝ }
+{
+    let Part::Is(value, _, next) = part_at(text, at, reference) else {
+        return refused(refusal::REFERENCE);
+    };
+    match numeric_to_end(text, next, most) {
+        End::Is(serial) => tagged(head, value, serial, [0; MOST_CHARACTERS], text.len() - next),
+        End::Refused(n) => refused(n),
+    }
 }
 
 // A reference of so many digits, to the end of the text.
@@ -138,6 +153,18 @@ fn reference_digits(t: Table, prefix: usize) -> usize
     rows::reference(t, rows::by_digits(prefix)).digits
 }
 
+// How a reference of n digits is written: with exactly so many, or as an integer of at most so many in cpi-96's table.
+fn reference_form(t: Table, n: usize) -> Form
+    requires { ⌜ n ≤ 19 ⌝ }
+    ensures { λ r. ⌜ formOf r ≡ counted t 0 n ⌝ }
+    ensures { λ r. ⌜ Short r ⌝ }
+{
+    if rows::exact(t) {
+        return Form::Digits(n);
+    }
+    Form::AtMost(n)
+}
+
 // What follows the company prefix.
 fn behind_prefix(text: &[u8], at: usize, head: Head, body: Body) -> Reading
     requires { ⌜ (at ≤ length (now text)) × Narrow (Parts.F body) × (6 ≤ head .digits) × (head .digits ≤ 12) ⌝ }
@@ -146,10 +173,11 @@ fn behind_prefix(text: &[u8], at: usize, head: Head, body: Body) -> Reading
     let digits = head.digits;
     match body {
         Body::Then(t, l) => {
-            let n = reference_digits(t, digits);
+            let reference = reference_form(t, reference_digits(t, digits));
             match l {
-                Last::Integer(bits) => with_integer(text, at, head, Form::Digits(n), bits),
-                Last::String(bits) => with_string(text, at, head, n, bits),
+                Last::Integer(bits) => with_integer(text, at, head, reference, bits),
+                Last::String(bits) => with_string(text, at, head, reference, bits),
+                Last::Numeric(_, most) => with_numeric(text, at, head, reference, most),
             }
         }
         Body::Zeros(t, _) => reference_alone(text, at, head, reference_digits(t, digits)),

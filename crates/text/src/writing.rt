@@ -12,11 +12,12 @@ use scheme::rows;
 ghost use mathlib.Core.List.{[], _∷_, _++_};
 ghost use Prim.Native.Nat.{_+_, _≤_, _<_};
 ghost use lib.ListN.{length};
+ghost use Rattle.rules.specs.Schemes.{cell, rowOf};
 ghost use Rattle.rules.specs.Grammar.{start, label, textOf};
 ghost use Rattle.scheme.specs.Records.{HasTag, Writes};
 ghost use Rattle.digits.specs.Pieces.{Puts};
 ghost use Rattle.rules.specs.Calls.{textRoom};
-ghost use Rattle.text.specs.Writing.{Company, Held, HeldBehind, integerText, companyText, referenceText, lastText, bodyText, integersText};
+ghost use Rattle.text.specs.Writing.{Company, Held, HeldBehind, integerText, numberText, companyText, referenceText, lastText, bodyText, integersText};
 
 fn put_byte(out: &mut [u8], at: usize, b: u8) -> usize
     requires { ⌜ at < length (now out) ⌝ }
@@ -45,6 +46,9 @@ fn put_label(out: &mut [u8], at: usize, s: Scheme) -> usize
         Scheme::Gdti96 => put_bytes(out, at, b"gdti-96:"),
         Scheme::Gdti174 => put_bytes(out, at, b"gdti-174:"),
         Scheme::Gid96 => put_bytes(out, at, b"gid-96:"),
+        Scheme::Gdti113 => put_bytes(out, at, b"gdti-113:"),
+        Scheme::Sgcn96 => put_bytes(out, at, b"sgcn-96:"),
+        Scheme::Cpi96 => put_bytes(out, at, b"cpi-96:"),
     }
 }
 
@@ -70,10 +74,19 @@ fn put_company(out: &mut [u8], at: usize, tag: Record) -> usize
     put_byte(out, q + tag.digits, b'.')
 }
 
-// The reference of one of the tables A to D, with the digits of the row that the company prefix picks: 11 at most.
-fn put_reference(out: &mut [u8], at: usize, table: Table, tag: Record) -> usize
+// An integer: a word has at most 20 digits.
+fn put_integer(out: &mut [u8], at: usize, v: u64) -> usize
+    requires { ⌜ at + 20 ≤ length (now out) ⌝ }
+    ensures { λ r. ⌜ Puts (integerText v) at (now (out .entry)) r (now (out .exit)) ⌝ }
+    ensures { λ r. ⌜ r ≤ at + 20 ⌝ }
+{
+    digits::put_decimal(out, at, v)
+}
+
+// The reference with exactly the digits of the row that the company prefix picks: 11 at most.
+fn put_row(out: &mut [u8], at: usize, table: Table, tag: Record) -> usize
     requires { ⌜ Company tag × (at + 11 ≤ length (now out)) ⌝ }
-    ensures { λ r. ⌜ Puts (referenceText table tag) at (now (out .entry)) r (now (out .exit)) ⌝ }
+    ensures { λ r. ⌜ Puts (numberText (cell table (rowOf (tag .digits)) .1) (tag .reference)) at (now (out .entry)) r (now (out .exit)) ⌝ }
     ensures { λ r. ⌜ r ≤ at + 11 ⌝ }
 {
     let cell = rows::reference(table, rows::by_digits(tag.digits));
@@ -82,13 +95,25 @@ fn put_reference(out: &mut [u8], at: usize, table: Table, tag: Record) -> usize
     at + n
 }
 
-// An integer: a word has at most 20 digits.
-fn put_integer(out: &mut [u8], at: usize, v: u64) -> usize
-    requires { ⌜ at + 20 ≤ length (now out) ⌝ }
-    ensures { λ r. ⌜ Puts (integerText v) at (now (out .entry)) r (now (out .exit)) ⌝ }
+// The reference of a table: the row's digits, or an integer in cpi-96's table.
+fn put_reference(out: &mut [u8], at: usize, table: Table, tag: Record) -> usize
+    requires { ⌜ Company tag × (at + 20 ≤ length (now out)) ⌝ }
+    ensures { λ r. ⌜ Puts (referenceText table tag) at (now (out .entry)) r (now (out .exit)) ⌝ }
     ensures { λ r. ⌜ r ≤ at + 20 ⌝ }
 {
-    digits::put_decimal(out, at, v)
+    if rows::exact(table) {
+        return put_row(out, at, table, tag);
+    }
+    put_integer(out, at, tag.reference)
+}
+
+// The digits of a numeric string: as many as the record says.
+fn put_numeric(out: &mut [u8], at: usize, tag: Record) -> usize
+    requires { ⌜ at + tag .count ≤ length (now out) ⌝ }
+    ensures { λ r. ⌜ Puts (numberText (tag .count) (tag .serial)) at (now (out .entry)) r (now (out .exit)) ⌝ }
+{
+    digits::put_digits(out, at, tag.count, tag.serial);
+    at + tag.count
 }
 
 // gid-96's three integers and the two dots between them.
@@ -103,7 +128,8 @@ fn put_integers(out: &mut [u8], at: usize, tag: Record) -> usize
     put_integer(out, s, tag.serial)
 }
 
-// The last part behind a reference: an integer, or the characters of a string, of which 20 escapes are the longest, 60 bytes.
+// The last part behind a reference: an integer, the characters of a string, of which 20 escapes are the longest, 60 bytes, or the digits
+// of a numeric string.
 fn put_last(out: &mut [u8], at: usize, last: Last, tag: Record) -> usize
     requires { ⌜ Held last tag × (at + 60 ≤ length (now out)) ⌝ }
     ensures { λ r. ⌜ Puts (lastText last tag) at (now (out .entry)) r (now (out .exit)) ⌝ }
@@ -111,12 +137,13 @@ fn put_last(out: &mut [u8], at: usize, last: Last, tag: Record) -> usize
     match last {
         Last::Integer(_) => put_integer(out, at, tag.serial),
         Last::String(_) => alphabet::write(&tag.characters, tag.count, out, at),
+        Last::Numeric(_, _) => put_numeric(out, at, tag),
     }
 }
 
-// The filter, the company prefix, and what follows it: 15 bytes, 11, a dot and 60 at most.
+// The filter, the company prefix, and what follows it: 15 bytes, 20, a dot and 60 at most.
 fn put_body(out: &mut [u8], at: usize, body: Body, tag: Record) -> usize
-    requires { ⌜ Company tag × HeldBehind body tag × (at + 87 ≤ length (now out)) ⌝ }
+    requires { ⌜ Company tag × HeldBehind body tag × (at + 96 ≤ length (now out)) ⌝ }
     ensures { λ r. ⌜ Puts (bodyText body tag) at (now (out .entry)) r (now (out .exit)) ⌝ }
 {
     let p = put_company(out, at, tag);

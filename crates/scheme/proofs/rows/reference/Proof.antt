@@ -1,7 +1,7 @@
 -- `reference` meets its contract: each table's two arrays are its columns.
 use mathlib.Core.Path.{refl}
 use borrow.Author.Needs.{needs}
-use Rattle.rules.specs.declared.Table.the-variants.{A, B, C, D}
+use Rattle.rules.specs.declared.Table.the-variants.{A, B, C, D, Cpi}
 use Rattle.rules.specs.Schemes.{rows}
 use Rattle.scheme.proofs.Columns.{reference-at}
 use Rattle.scheme.proofs.rows.reference.Statement.{statement}
@@ -22,6 +22,10 @@ returns-C c = reference-at _ C _ _ (c .before .before .args .p) (c .enum-told3 .
 returns-D : tie.Need-returns-4
 unfolding rows
 returns-D c = reference-at _ D _ _ (c .before .before .args .p) (c .enum-told4 .given .1) refl refl refl refl
+
+returns-Cpi : tie.Need-returns-5
+unfolding rows
+returns-Cpi c = reference-at _ Cpi _ _ (c .before .before .args .p) (c .enum-told5 .given .1) refl refl refl refl
 
 pub reference-spec : {M : Type 1} → statement M
 reference-spec =
@@ -47,7 +51,13 @@ reference-spec =
     (λ c. search needs)
     (λ c. search needs)
     (λ c. search needs)
+    (λ c. search needs)
+    (λ c. search needs)
+    (λ c. search needs)
+    (λ c. search needs)
+    (λ c. search needs)
     returns-A
     returns-B
     returns-C
-    returns-D)
+    returns-D
+    returns-Cpi)

@@ -3,8 +3,7 @@ use mathlib.Core.Path.{sym, _∙_}
 use lib.ListN.{drop}
 use borrow.Author.Needs.{needs}
 use Rattle.rules.specs.declared.Last.the-variants.{String}
-use Rattle.rules.specs.Schemes.{digits}
-use Rattle.parts.specs.declared.parts.Form.the-variants.{Digits}
+use Rattle.parts.specs.Parts.{formOf}
 use Rattle.text.proofs.Found.{Standing, wrong, stands}
 use Rattle.text.proofs.Lasts.{no-reference, behind-none, behind-long, behind-taken}
 use Rattle.text.proofs.reading.with_string.Statement.{statement}
@@ -15,15 +14,15 @@ returns c =
     let p = c .before .before .before in
     let x = p .before .before .args in
     c .refused .ensures
-    ∙ no-reference (x .head) (digits 0 (x .reference)) (String (x .bits)) (drop (x .at) (x .text .now)) (wrong 6 (Digits (x .reference)) (x .text .now) (x .at) (sym (c .before .enum-told .given .1) ∙ p .part-at .ensures))
+    ∙ no-reference (x .head) (formOf (x .reference)) (String (x .bits)) (drop (x .at) (x .text .now)) (wrong 6 (x .reference) (x .text .now) (x .at) (sym (c .before .enum-told .given .1) ∙ p .part-at .ensures))
 
 -- the reference, from the place where its names are
 reference : (c : tie.After-value) → let x = c .before .before .before .before .args in
-    Standing 6 (Digits (x .reference)) (x .text .now) (x .at) (c .value .given .0 .0) (c .value .given .0 .1 .0) (c .value .given .0 .1 .1 .0)
+    Standing 6 (x .reference) (x .text .now) (x .at) (c .value .given .0 .0) (c .value .given .0 .1 .0) (c .value .given .0 .1 .1 .0)
 reference c =
     let p = c .before .before in
     let x = p .before .before .args in
-    stands 6 (Digits (x .reference)) (x .text .now) (x .at) (c .value .given .0 .0) (c .value .given .0 .1 .0) (c .value .given .0 .1 .1 .0) (sym (c .value .given .1) ∙ p .part-at .ensures)
+    stands 6 (x .reference) (x .text .now) (x .at) (c .value .given .0 .0) (c .value .given .0 .1 .0) (c .value .given .0 .1 .1 .0) (sym (c .value .given .1) ∙ p .part-at .ensures)
 
 inside : tie.Need-read-requires
 inside c κs = reference (c .before) .within

@@ -4,7 +4,7 @@ use mathlib.Core.Path.{_≡_}
 use mathlib.Core.List.{List}
 use borrow.Author.Needs.{needs}
 use Rattle.rules.specs.declared.Scheme.{Scheme}
-use Rattle.rules.specs.declared.Scheme.the-variants.{Sgtin96, Sgtin198, Sscc96, Sgln96, Sgln195, Grai96, Grai170, Giai96, Gsrn96, Gsrnp96, Gdti96, Gdti174, Gid96}
+use Rattle.rules.specs.declared.Scheme.the-variants.{Sgtin96, Sgtin198, Sscc96, Sgln96, Sgln195, Grai96, Grai170, Giai96, Gsrn96, Gsrnp96, Gdti96, Gdti174, Gid96, Gdti113, Sgcn96, Cpi96}
 use Rattle.rules.specs.Grammar.{label}
 use Rattle.digits.specs.Pieces.{Puts}
 use Rattle.text.proofs.writing.put_label.Statement.{statement}
@@ -17,6 +17,15 @@ pub put-label-spec : {M : Type 1} → statement M
 put-label-spec =
     tie.close
     (tie.spec
+    (λ c. search needs)
+    (λ c. search needs)
+    (λ c κs. search needs)
+    (λ c. search needs)
+    (λ c. search needs)
+    (λ c κs. search needs)
+    (λ c. search needs)
+    (λ c. search needs)
+    (λ c κs. search needs)
     (λ c. search needs)
     (λ c. search needs)
     (λ c κs. search needs)
@@ -81,4 +90,10 @@ put-label-spec =
     (λ c. search needs)
     (λ c. arm Gdti174 (c .before .before .before .before .before .enum-told12 .given .1) (c .before .before .put-bytes12 .ensures))
     (λ c. search needs)
-    (λ c. arm Gid96 (c .before .before .before .before .before .enum-told13 .given .1) (c .before .before .put-bytes13 .ensures)))
+    (λ c. arm Gid96 (c .before .before .before .before .before .enum-told13 .given .1) (c .before .before .put-bytes13 .ensures))
+    (λ c. search needs)
+    (λ c. arm Gdti113 (c .before .before .before .before .before .enum-told14 .given .1) (c .before .before .put-bytes14 .ensures))
+    (λ c. search needs)
+    (λ c. arm Sgcn96 (c .before .before .before .before .before .enum-told15 .given .1) (c .before .before .put-bytes15 .ensures))
+    (λ c. search needs)
+    (λ c. arm Cpi96 (c .before .before .before .before .before .enum-told16 .given .1) (c .before .before .put-bytes16 .ensures)))

@@ -1,0 +1,62 @@
+-- `with_numeric` meets its contract: the reference stands before its dot, the numeric string is the rest.
+use mathlib.Core.Path.{sym, _∙_}
+use lib.ListN.{drop}
+use borrow.Author.Needs.{needs}
+use Rattle.rules.specs.declared.Last.the-variants.{Numeric}
+use Rattle.parts.specs.Parts.{formOf}
+use Rattle.text.proofs.Found.{Standing, wrong, stands}
+use Rattle.text.proofs.Lasts.{no-reference, numeric-refused, numeric-taken}
+use Rattle.text.proofs.reading.with_numeric.Statement.{statement}
+use Rattle.text.proofs.reading.with_numeric.Tie as tie
+
+returns : tie.Need-returns
+returns c =
+    let p = c .before .before .before in
+    let x = p .before .before .args in
+    c .refused .ensures
+    ∙ no-reference (x .head) (formOf (x .reference)) (Numeric 0 (x .most)) (drop (x .at) (x .text .now)) (wrong 6 (x .reference) (x .text .now) (x .at) (sym (c .before .enum-told .given .1) ∙ p .part-at .ensures))
+
+-- the reference, from the place where its names are
+reference : (c : tie.After-value) → let x = c .before .before .before .before .args in
+    Standing 6 (x .reference) (x .text .now) (x .at) (c .value .given .0 .0) (c .value .given .0 .1 .0) (c .value .given .0 .1 .1 .0)
+reference c =
+    let p = c .before .before in
+    let x = p .before .before .args in
+    stands 6 (x .reference) (x .text .now) (x .at) (c .value .given .0 .0) (c .value .given .0 .1 .0) (c .value .given .0 .1 .1 .0) (sym (c .value .given .1) ∙ p .part-at .ensures)
+
+inside : tie.Need-numeric-to-end-requires
+inside c κs = (reference (c .before) .within, c .before .before .before .before .before .pre .2)
+
+returns-2 : tie.Need-returns-2
+returns-2 c =
+    let n = c .before .before in
+    let l = n .before .before in
+    let v = l .before .before in
+    let x = v .before .before .before .before .args in
+    c .tagged .ensures ∙ numeric-taken (x .head) (x .reference) (x .most) (x .text .now) (x .at) _ _ _ (reference v) (n .serial .given .0 .0) (sym (n .serial .given .1) ∙ l .numeric-to-end .ensures)
+
+returns-3 : tie.Need-returns-3
+returns-3 c =
+    let n = c .before .before in
+    let l = n .before .before in
+    let v = l .before .before in
+    let x = v .before .before .before .before .args in
+    c .refused2 .ensures ∙ numeric-refused (x .head) (x .reference) (x .most) (x .text .now) (x .at) _ _ _ (reference v) (n .n .given .0 .0) (sym (n .n .given .1) ∙ l .numeric-to-end .ensures)
+
+pub with-numeric-spec : {M : Type 1} → statement M
+with-numeric-spec =
+    tie.close
+    (tie.spec
+    (λ c κs. search needs)
+    (λ c. search needs)
+    (λ c. search needs)
+    (λ c κs. search needs)
+    returns
+    inside
+    (λ c. search needs)
+    (λ c. reference (c .before .before .before .before .before) .within)
+    (λ c κs. search needs)
+    (λ c. search needs)
+    (λ c κs. search needs)
+    returns-2
+    returns-3)
