@@ -1,11 +1,14 @@
 //! What is measured: tags of each scheme in every row of its table, and hostile texts of any length.
 
-/// What stands behind the company prefix, with its digits or bits (docs/01-scope.md, "The thirteen schemes").
+/// What stands behind the company prefix, with its digits or bits (docs/01-scope.md, "The thirteen schemes", and request C-11 of
+/// docs/02-change-requests.md).
 enum Parts {
     Integer { together: usize, bits: u32 },
     String { together: usize, most: usize },
+    NumericString { together: usize, most: usize },
     Alone { together: usize },
     Asset,
+    Component { together: usize, bits: u32 },
     Integers,
 }
 
@@ -14,9 +17,9 @@ pub struct Scheme {
     parts: Parts,
 }
 
-/// `together` is how many digits prefix and reference have between them.
+/// `together` is how many digits prefix and reference have between them, or may have.
 #[rustfmt::skip]
-pub const SCHEMES: [Scheme; 13] = [
+pub const SCHEMES: [Scheme; 16] = [
     Scheme { name: "sgtin-96", parts: Parts::Integer { together: 13, bits: 38 } },
     Scheme { name: "sgtin-198", parts: Parts::String { together: 13, most: 20 } },
     Scheme { name: "sscc-96", parts: Parts::Alone { together: 17 } },
@@ -30,6 +33,9 @@ pub const SCHEMES: [Scheme; 13] = [
     Scheme { name: "gdti-96", parts: Parts::Integer { together: 12, bits: 41 } },
     Scheme { name: "gdti-174", parts: Parts::String { together: 12, most: 17 } },
     Scheme { name: "gid-96", parts: Parts::Integers },
+    Scheme { name: "gdti-113", parts: Parts::NumericString { together: 12, most: 17 } },
+    Scheme { name: "sgcn-96", parts: Parts::NumericString { together: 12, most: 12 } },
+    Scheme { name: "cpi-96", parts: Parts::Component { together: 15, bits: 31 } },
 ];
 
 const PLAIN: &[u8] = b"!'()*+,-.0123456789:;=ABCDEFGHIJKLMNOPQRSTUVWXYZ_abcdefghijklmnopqrstuvwxyz";
@@ -60,6 +66,17 @@ impl Seeded {
         self.below(1 << bits)
     }
 
+    /// A number of any size with at most so many digits.
+    fn short(&mut self, most: usize) -> u64 {
+        let digits = 1 + self.below(most as u64);
+        self.below(10u64.pow(digits as u32))
+    }
+
+    fn numeric_string(&mut self, most: usize) -> String {
+        let count = 1 + self.below(most as u64);
+        self.digits(count as usize)
+    }
+
     fn string(&mut self, most: usize) -> String {
         let count = 1 + self.below(most as u64);
         (0..count).map(|_| self.character()).collect()
@@ -86,8 +103,16 @@ fn text(scheme: &Scheme, prefix_digits: usize, seeded: &mut Seeded) -> String {
             let reference = seeded.digits(together - prefix_digits);
             format!("{company}.{reference}.{}", seeded.string(most))
         }
+        Parts::NumericString { together, most } => {
+            let reference = seeded.digits(together - prefix_digits);
+            format!("{company}.{reference}.{}", seeded.numeric_string(most))
+        }
         Parts::Alone { together } => format!("{company}.{}", seeded.digits(together - prefix_digits)),
         Parts::Asset => format!("{company}.{}", seeded.integer(42)),
+        Parts::Component { together, bits } => {
+            let reference = seeded.short(together - prefix_digits);
+            format!("{company}.{reference}.{}", seeded.integer(bits))
+        }
         Parts::Integers => format!("{}.{}.{}", seeded.integer(28), seeded.integer(24), seeded.integer(36)),
     };
     format!("urn:epc:tag:{}:{parts}", scheme.name)
@@ -99,11 +124,12 @@ pub fn texts(scheme: &Scheme, count: usize, seeded: &mut Seeded) -> Vec<Vec<u8>>
 }
 
 /// What repeats, and before what: each text is wrong or too long only at its very end.
-pub const HOSTILE: [(&str, &str, &str); 6] = [
+pub const HOSTILE: [(&str, &str, &str); 7] = [
     ("escapes", "urn:epc:tag:sgtin-198:0.0614141.812345.", "%2F"),
     ("letters", "urn:epc:tag:sgtin-198:0.0614141.812345.", "A"),
     ("dots", "urn:epc:tag:sgtin-198:0.0614141.812345.", "."),
     ("digits in a string", "urn:epc:tag:sgtin-198:0.0614141.812345.", "7"),
+    ("digits in a numeric string", "urn:epc:tag:gdti-113:3.0614141.12345.", "7"),
     ("digits of a serial", "urn:epc:tag:sgtin-96:3.0614141.812345.", "7"),
     ("digits of a prefix", "urn:epc:tag:sgtin-96:3.", "7"),
 ];
