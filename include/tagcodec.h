@@ -1,8 +1,9 @@
-/* tagcodec: RFID tag codes of thirteen GS1 EPC schemes, text to bank, bank to text, and the line on the screen.
+/* tagcodec: RFID tag codes of sixteen GS1 EPC schemes, text to bank, bank to text, and the line on the screen.
  *
- * Every function here is proved, in Rattle, to give what docs/01-scope.md says, for any bytes whatever: number, length, and
- * each byte of the output. The caller checks nothing beforehand. No function keeps a pointer, allocates, or changes anything
- * but the output, so all may be called from any number of threads.
+ * Every function here is proved, in Rattle, to give what docs/01-scope.md says and, for gdti-113, sgcn-96 and cpi-96, C-11 of
+ * docs/02-change-requests.md, for any bytes whatever: number, length, and each byte of the output. The caller checks nothing
+ * beforehand. No function keeps a pointer, allocates, or changes anything but the output, so all may be called from any number
+ * of threads.
  *
  * What the caller owes, because C can't check it:
  *   - each pointer is valid for the length beside it (NULL will do where that length is 0);
@@ -34,9 +35,10 @@ enum tagcodec_number {
     TAGCODEC_FILTER = 4,         /* filter is not one digit 0 to 7 and a dot (never for gid-96) */
     TAGCODEC_PREFIX = 5,         /* no 6 to 12 digits and a dot; for gid-96, no integer below 2^28 and a dot */
     TAGCODEC_REFERENCE = 6,      /* not the row's digits and a dot, or the end for sscc-96, gsrn-96 and gsrnp-96;
+                                    for cpi-96, no integer of at most the row's digits and a dot;
                                     for gid-96, no integer below 2^24 and a dot */
     TAGCODEC_LAST_PART_FORM = 7, /* last part has the wrong form, empty included */
-    TAGCODEC_LAST_PART_SIZE = 8, /* last part's value or number of characters is too large */
+    TAGCODEC_LAST_PART_SIZE = 8, /* last part's value, or its number of characters or digits, is too large */
 
     /* bank to text; the raw line gives only 1, 9 and 10 */
     TAGCODEC_BANK_TOO_SHORT = 9,      /* fewer than 2 bytes, or fewer than 2 + 2 W, W being the bank's word count */
@@ -49,7 +51,8 @@ enum tagcodec_number {
     TAGCODEC_PARTITION = 16,          /* partition value is 7 */
     TAGCODEC_PREFIX_TOO_LARGE = 17,   /* prefix is 10^digits or more */
     TAGCODEC_REFERENCE_TOO_LARGE = 18, /* reference is 10^digits or more; with 0 digits, not 0 */
-    TAGCODEC_STRING = 19              /* string begins with a zero, has a nonzero group after a zero, or a group that is no character */
+    TAGCODEC_STRING = 19              /* string begins with a zero, has a nonzero group after a zero, or a group that is no character;
+                                         for gdti-113 and sgcn-96, the integer is not a 1 and 1 to 17 or 12 digits */
 };
 
 /* What a call gives. Accepted: number 0 and the length written from the output's start on; bytes past it are unchanged.

@@ -27,7 +27,8 @@ use Rattle.scheme.specs.Outlines.{Narrow}
 use Rattle.scheme.specs.Records.{refusal, readingOf}
 use Rattle.scheme.proofs.Widths.{parts-narrow}
 use Rattle.fields.specs.BitReaders.{LiesInCode, codeField}
-use Rattle.bank.specs.Reading.{Coded, shapeOf, numericOf}
+use Rattle.bank.specs.Reading.{Coded, shapeOf}
+use Rattle.tens.specs.Numerics.{numericOf}
 use Rattle.bank.proofs.Sizes.{Inside, sizes, Roomy, roomy}
 use Rattle.bank.proofs.Stages.{coded-tag}
 use Rattle.bank.proofs.Numbers as Numbers
@@ -96,7 +97,7 @@ module _ (b : List ℕ) (s : Scheme) (body : Body) (c : Coded b s (F body)) wher
         pub right-string : shapeOf body (rowIn b) .most ≡ 0 → (n : ℕ) → n ≡ countOf (stringIn (groupsIn b (shapeOf body (rowIn b)))) → (¬ (n ≡ 0)) ⊎ (shapeOf body (rowIn b) .groups ≡ 0)
             → let h = shapeOf body (rowIn b) in readingOf (tagOfBank b) ≡ record { number = 0; tag = made b s small (codeField b (start b) (h .cell .bits)) (codeField b (start b + h .cell .bits) (h .serial)) (groupsIn b h ++ replicate (20 - h .groups) 0) n }
         right-string z n e o =
-            ap readingOf (read-on .2) ∙ record-made b s small body (c .parts) narrow (rw (c .parts) at (sizes s .digits)) z (room (partitionIn b) row .groups) (read-on .0) (read-on .1) n e o
+            ap readingOf (read-on .2) ∙ record-made b s small body (c .parts) narrow z (room (partitionIn b) row .groups) (read-on .0) (read-on .1) n e o
 
         pub wrong-numeric : ¬ (shapeOf body (rowIn b) .most ≡ 0) → numericOf (numericAt b (shapeOf body (rowIn b))) .count ≡ 0 → tagOfBank b ≡ refused 19
         wrong-numeric h e = read-on .2 ∙ rw (numeric-refused b body h e)

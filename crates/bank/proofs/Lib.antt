@@ -1,6 +1,5 @@
 -- Laws: of reading, then of writing.
 mod Sizes
-mod Numerals
 mod Strings
 mod Groups
 mod Zeros

@@ -109,7 +109,7 @@ module _ (n : ℕ) (cs : List ℕ) (h : Fit (string n) cs) (l : (n ≡ 7 * (n / 
 numeric-room : (t : Table) (n k w : ℕ) → PartSizes (F (Then t (Numeric n k))) w → 2 * 10 ^ k ≤ 2 ^ n
 numeric-room t n k w h = by-row (λ P r. RowSizes (Then t (Numeric n k)) w r) (h .1) 0 (lit< tt) .2 .1
 
-numeric-kept : (n k : ℕ) (ds : List ℕ) → Fit (numeric n k) ds → (32 ≤ n) × (n ≤ 62) × (k ≤ 17) → 2 * 10 ^ k ≤ 2 ^ n
+numeric-kept : (n k : ℕ) (ds : List ℕ) → Fit (numeric n k) ds → (32 ≤ n) × (n ≤ 62) × (0 < k) × (k ≤ 17) → 2 * 10 ^ k ≤ 2 ^ n
     → (length ds ≤ 17) × (value 10 ds < 10 ^ length ds) × Wide n (10 ^ length ds + value 10 ds)
 numeric-kept n k ds h l room =
     let few : length ds ≤ k = leb→le (length ds) k (h .size) in

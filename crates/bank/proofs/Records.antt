@@ -32,9 +32,9 @@ use Rattle.scheme.specs.Outlines.{Narrow}
 use Rattle.scheme.specs.Records.{filterOf, prefixOf, digitsOf, referenceOf, serialOf, charactersOf, countOf as countIn, padded, recordOf, readingOf}
 use Rattle.fields.specs.BitReaders.{codeField}
 use Rattle.bank.specs.declared.reading.Shape.{Shape}
-use Rattle.bank.specs.Reading.{shapeOf, numericOf, groupsAt}
-use Rattle.bank.proofs.Sizes.{SomeDigits}
-use Rattle.bank.proofs.Numerals.{none-read}
+use Rattle.bank.specs.Reading.{shapeOf, groupsAt}
+use Rattle.tens.specs.Numerics.{numericOf}
+use Rattle.tens.proofs.Numerals.{none-read}
 use Rattle.bank.proofs.Parts.{start, partsOf, answered, stringOf, no-bits}
 
 -- the record of parts p
@@ -104,20 +104,20 @@ module _ (b : List ℕ) (s : Scheme) (small : codeField b 14 (prefixBits (rowIn 
   readWith body ds a = readingOf (answered b body ds a >>= λ ps. taken (record { scheme = s; parts = ps }))
 
   -- no numeric string: the string, if any, has n characters
-  pub record-made : (body : Body) → about s .parts ≡ F body → Narrow (F body) → SomeDigits (F body) → shapeOf body (rowIn b) .most ≡ 0 → shapeOf body (rowIn b) .groups ≤ 20
+  pub record-made : (body : Body) → about s .parts ≡ F body → Narrow (F body) → shapeOf body (rowIn b) .most ≡ 0 → shapeOf body (rowIn b) .groups ≤ 20
       → (ds : List ℕ) → value 10 ds ≡ codeField b (start b) (shapeOf body (rowIn b) .cell .bits)
       → (n : ℕ) → n ≡ countOf (stringIn (groupsIn b (shapeOf body (rowIn b)))) → (¬ (n ≡ 0)) ⊎ (shapeOf body (rowIn b) .groups ≡ 0)
       → let h = shapeOf body (rowIn b) in readWith body ds (stringOf b body) ≡ record { number = 0; tag = made (codeField b (start b) (h .cell .bits)) (codeField b (start b + h .cell .bits) (h .serial)) (groupsIn b h ++ replicate (20 - h .groups) 0) n }
-  record-made (Then t (Integer n)) e w d z k ds v m q o = rw (front (Then t (Integer n)) ds [] e, v, value-shortest 10 (lit< tt), q, no-groups)
-  record-made (Then t (String n)) e w d z k ds v m q (inl o) =
+  record-made (Then t (Integer n)) e w z k ds v m q o = rw (front (Then t (Integer n)) ds [] e, v, value-shortest 10 (lit< tt), q, no-groups)
+  record-made (Then t (String n)) e w z k ds v m q (inl o) =
       let g = groupsAt b (start b + cell t (rowIn b) .0) (n / 7) in
       let read : stringIn g ≡ taken (take m g) = count-taken g m q o in
       let count : m ≡ length (take m g) = rw read at q in
       rw (read, front (Then t (String n)) ds (take m g) e, v, no-bits, padded-groups g (take m g) (n / 7) (length-gather 2 7 (n / 7) _) k read, ← count)
-  record-made (Then t (String n)) e w d z k ds v m q (inr o) = absurd (omega arith)
-  record-made (Then t (Numeric n k)) e w d z l ds v m q o = absurd (omega (arith, d, z))
-  record-made (Zeros t n) e w d z k ds v m q o = rw (front (Zeros t n) ds [] e, v, no-bits, q, no-groups)
-  record-made E e w d z k ds v m q o = rw (front E ds [] e, value-shortest 10 (lit< tt), no-bits, add-zero (start b), q, no-groups)
+  record-made (Then t (String n)) e w z k ds v m q (inr o) = absurd (omega arith)
+  record-made (Then t (Numeric n k)) e w z l ds v m q o = absurd (omega (arith, w, z))
+  record-made (Zeros t n) e w z k ds v m q o = rw (front (Zeros t n) ds [] e, v, no-bits, q, no-groups)
+  record-made E e w z k ds v m q o = rw (front E ds [] e, value-shortest 10 (lit< tt), no-bits, add-zero (start b), q, no-groups)
 
   -- a numeric string: its digits
   pub numeric-made : (body : Body) → about s .parts ≡ F body → ¬ (shapeOf body (rowIn b) .most ≡ 0)

@@ -18,10 +18,11 @@ use Rattle.rules.specs.BankNumbers.{stringIn, numericIn, tagOfBank}
 use Rattle.alphabet.specs.Strings.{countOf}
 use Rattle.scheme.specs.Records.{readingOf}
 use Rattle.fields.specs.BitReaders.{LiesInCode, codeField}
-use Rattle.bank.specs.declared.numerics.Digits.{Digits}
+use Rattle.tens.specs.declared.Digits.{Digits}
+use Rattle.tens.specs.Numerics.{numericOf}
 use Rattle.bank.specs.declared.reading.Company.{Company}
 use Rattle.bank.specs.declared.reading.Shape.{Shape}
-use Rattle.bank.specs.Reading.{Referred, prefixEnd, referenceEnd, shapeOf, numericOf, groupsAt, GroupsLie}
+use Rattle.bank.specs.Reading.{Referred, prefixEnd, referenceEnd, shapeOf, groupsAt, GroupsLie}
 use Rattle.bank.proofs.Sizes.{Roomy, roomy}
 use Rattle.bank.proofs.Groups.{length-groups}
 use Rattle.bank.proofs.Answers.{few-words, bytes, lies, wrong-string, right-string, wrong-numeric, right-numeric}

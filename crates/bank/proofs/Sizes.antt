@@ -6,9 +6,7 @@ use Rattle.rules.specs.declared.Scheme.{Scheme}
 use Rattle.rules.specs.declared.Scheme.the-variants.{Sgtin96, Sgtin198, Sscc96, Sgln96, Sgln195, Grai96, Grai170, Giai96, Gsrn96, Gsrnp96, Gdti96, Gdti174, Gid96, Gdti113, Sgcn96, Cpi96}
 use Rattle.rules.specs.Schemes.{Row, rows, rowAt, about, words, prefixBits}
 use Rattle.rules.proofs.Rows.{AllRows, by-row}
-use Rattle.rules.specs.declared.Last.the-variants.{Integer, String, Numeric}
 use Rattle.rules.specs.declared.Body.{Body}
-use Rattle.rules.specs.declared.Body.the-variants.{Then, Zeros, E}
 use Rattle.rules.specs.declared.Parts.{Parts}
 use Rattle.rules.specs.declared.Parts.the-variants.{F, Integers}
 use Rattle.bank.specs.declared.reading.Shape.{Shape}
@@ -28,20 +26,10 @@ abbrev pub Inside : ℕ → Parts → Type 0
 Inside W (F body) = AllRows (λ P r. Roomy W r (shapeOf body r)) 0 rows
 Inside W (Integers a b c) = 8 + a + b + c ≤ 16 * W
 
--- a numeric string may have a digit
-abbrev pub SomeDigits : Parts → Type 0
-SomeDigits (F (Then t (Integer n))) = Unit
-SomeDigits (F (Then t (String n))) = Unit
-SomeDigits (F (Then t (Numeric n k))) = 0 < k
-SomeDigits (F (Zeros t n)) = Unit
-SomeDigits (F E) = Unit
-SomeDigits (Integers a b c) = Unit
-
 -- what is seen scheme by scheme: the zeros behind the parts are a word at most, and so is each field
 pub record Sizes (s : Scheme) : Type 0 where
   pub zeros : 16 * words s - endOf s ≤ 64
   pub inside : Inside (words s) (about s .parts)
-  pub digits : SomeDigits (about s .parts)
 
 pub sizes : (s : Scheme) → Sizes s
 unfolding rows

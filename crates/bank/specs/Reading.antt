@@ -3,15 +3,15 @@ use Prim.Native.Nat.{ℕ, _+_, _-_, _*_, _/_, _^_, _<_, _≤_}
 use mathlib.Core.Path.{_≡_}
 use mathlib.Core.List.{List}
 use mathlib.Core.Option.{some}
-use lib.ListN.{length, take, drop}
-use Rattle.numeral.specs.Numeral.{value, spread, gather}
+use lib.ListN.{take, drop}
+use Rattle.numeral.specs.Numeral.{spread, gather}
 use Rattle.rules.specs.declared.Scheme.{Scheme}
 use Rattle.rules.specs.declared.Last.the-variants.{Integer, String, Numeric}
 use Rattle.rules.specs.declared.Body.{Body}
 use Rattle.rules.specs.declared.Body.the-variants.{Then, Zeros, E}
 use Rattle.rules.specs.declared.Parts.{Parts}
 use Rattle.rules.specs.declared.Parts.the-variants.{F}
-use Rattle.rules.specs.Answers.{Answer, refused, taken}
+use Rattle.rules.specs.Answers.{taken}
 use Rattle.rules.specs.Schemes.{Row, schemes, about, words, zeroBits, prefixBits, prefixDigits, assetBits}
 use Rattle.rules.specs.Coding.{at}
 use Rattle.rules.specs.BankNumbers.{headed, controlIn}
@@ -19,7 +19,6 @@ use Rattle.rules.specs.Conditions.{partitionIn, rowIn}
 use Rattle.scheme.specs.declared.rows.Cell.{Cell}
 use Rattle.scheme.specs.Rows.{referenceOf}
 use Rattle.fields.specs.BitReaders.{codeField}
-use Rattle.bank.specs.declared.numerics.Digits.{Digits}
 use Rattle.bank.specs.declared.reading.Company.{Company}
 use Rattle.bank.specs.declared.reading.Shape.{Shape}
 
@@ -79,11 +78,6 @@ pub record Referred (b : List ℕ) (s : Scheme) (body : Body) (c : Company) (h :
 
 abbrev pub referenceEnd : List ℕ → Shape → ℕ
 referenceEnd b h = prefixEnd b + h .cell .bits
-
--- the digits of a numeric string as the code holds them
-abbrev pub numericOf : Answer (List ℕ) → Digits
-numericOf (refused n) = record { value = 0; count = 0 }
-numericOf (taken ds) = record { value = value 10 ds; count = length ds }
 
 -- k groups of seven bits, from a code bit on
 abbrev pub groupsAt : List ℕ → ℕ → ℕ → List ℕ

@@ -1,6 +1,6 @@
 // The characters of a string eight at a time: their 56 bits are one number, read and written at once.
 ghost use mathlib.Core.Path.{_≡_};
-ghost use Prim.Native.Nat.{_+_, _≤_, min};
+ghost use Prim.Native.Nat.{_+_, _≤_};
 ghost use lib.ListN.{length, take, drop};
 ghost use Rattle.numeral.specs.Numeral.{value, numeral, Digits, splice};
 

@@ -1,8 +1,6 @@
 // A bank to the record of its tag: the rules 9 to 19, in their order (document 01, "Numbers given, and when"). Each function goes on where
 // the one before it stopped, and returns the whole bank's result.
 use super::eights;
-use super::numerics::behind_one;
-use super::powers::power;
 use fields::bitreader::take;
 use fields::control;
 use rules::Body;
@@ -20,6 +18,8 @@ use scheme::record::refused;
 use scheme::refusal;
 use scheme::rows;
 use scheme::rows::Cell;
+use tens::behind_one;
+use tens::power;
 ghost use mathlib.Core.Path.{_≡_};
 ghost use Prim.Native.Nat.{_-_, _<_};
 ghost use mathlib.Core.List.{_++_};

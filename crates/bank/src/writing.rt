@@ -1,7 +1,6 @@
 // The bank of a tag, written from its record (document 01, "The bank"): one stream of bits, in order. Each `put_` function takes the
 // stream, adds its bits, and returns the stream behind them.
 use super::eights;
-use super::numerics::with_one;
 use bits::Stream;
 use fields::control::size;
 use rules::Body;
@@ -13,6 +12,7 @@ use scheme::outlines::Outline;
 use scheme::outlines::about;
 use scheme::record::Record;
 use scheme::rows;
+use tens::with_one;
 ghost use mathlib.Core.List.{_++_};
 ghost use Prim.Native.Nat.{_≤_, _<_};
 ghost use lib.ListN.{length, take};

@@ -20,8 +20,6 @@ use scheme::types::Sscc96;
 ghost use mathlib.Core.Path.{_≡_};
 ghost use Prim.Native.Nat.{_≤_};
 ghost use lib.ListN.{length, drop};
-ghost use Rattle.rules.specs.Schemes.{schemes};
-ghost use Rattle.rules.specs.TextNumbers.{named};
 ghost use Rattle.parts.specs.Names.{namedAt, noTail, tailOf, keyedBy};
 
 // A scheme, and where the text goes on behind its colon.

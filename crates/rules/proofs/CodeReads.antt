@@ -15,7 +15,7 @@ use Rattle.rules.specs.declared.Body.{Body}
 use Rattle.rules.specs.declared.Body.the-variants.{Then, Zeros, E}
 use Rattle.rules.specs.declared.Parts.{Parts}
 use Rattle.rules.specs.declared.Parts.the-variants.{F, Integers}
-use Rattle.rules.specs.Schemes.{Row, Form, company, integer, counted, rowAt, rowOf, cell, assetBits, prefixBits, prefixDigits, partition, lastForm, digits, atMost}
+use Rattle.rules.specs.Schemes.{Form, company, integer, counted, rowAt, rowOf, cell, assetBits, prefixBits, prefixDigits, partition, lastForm, digits, atMost}
 use Rattle.rules.specs.Grammar.{Role, Layout, part, end, laid, bodyLayout, Fits, more, one}
 use Rattle.rules.specs.Coding.{partBits, coded, at}
 use Rattle.rules.specs.BankNumbers.{Field, fieldIn, fieldsIn}

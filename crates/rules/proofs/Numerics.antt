@@ -1,19 +1,20 @@
 -- The numeric string, over any width and any number of digits: a 1 is put before the digits, and the whole is one integer.
-use Prim.Native.Nat.{ℕ, zero, suc, _*_, _-_, _+_, _^_, _≤_, _<_}
+use Prim.Native.Nat.{ℕ, suc, _*_, _-_, _+_, _^_, _≤_, _<_}
 use mathlib.Core.Path.{_≡_, refl, sym, _∙_, ap}
-use mathlib.Core.Logic.{_↔_}
+use mathlib.Core.Logic.{_↔_, ⊎-elim}
 use mathlib.Core.List.{List, [], _∷_}
 use mathlib.Core.Option.{none, some}
 use mathlib.Core.Bool.{Bool, true, false, _&&_, cond}
 use native.Mathlib.Omega.{arith}
-use native.Mathlib.Nat.{pow-le-pow-right}
-use lib.Dec.{T, leb, ltb, eqb, leb→le, ltb→lt, le→leb, lt→ltb, eqb→eq, lit<}
+use native.Mathlib.Nat.{pow-le-pow-right, pow-suc}
+use lib.Dec.{T, leb, ltb, eqb, leb→le, ltb→lt, le→leb, lt→ltb, eqb→eq, lit<, lit≤}
 use lib.ListN.{length}
 use Rattle.numeral.specs.Numeral.{value, numeral, Digits, shortest}
+use Rattle.numeral.proofs.Arithmetic.{lt-or-ge}
 use Rattle.numeral.proofs.Values.{value-lt, length-numeral, digits-numeral, value-numeral-lt}
 use Rattle.numeral.proofs.Shortest.{shortest-value, value-shortest}
-use Rattle.rules.specs.Answers.{Answer, taken, _>>=_, _>>_, demand, given}
-use Rattle.rules.specs.BankNumbers.{behindOne, numericIn}
+use Rattle.rules.specs.Answers.{taken, _>>=_, _>>_, demand, given}
+use Rattle.rules.specs.BankNumbers.{numericIn}
 use Rattle.rules.specs.Conditions.{OneThen}
 use Rattle.rules.proofs.Tests.{is-true, both, and, eq→eqb}
 use Rattle.rules.proofs.Answers.{Settled}
@@ -96,3 +97,21 @@ one-between n v = (forth, back)
         let m = length-numeral 10 k w in
         let e : value 10 ds ≡ w = value-numeral-lt 10 k w (omega arith) in
         (ds, digits-numeral 10 k w (lit< tt), rw m p, rw m l, rw (one-then ds, m, e) (omega arith))
+
+-- where no integer reaches 3 x 10^n, the first digit decides, and that another follows it: only 0, 1 and what begins with 2 to 9 is none
+pub first-digit : (n v : ℕ) → v < 3 * 10 ^ n → OneThen n v ↔ ((ds : List ℕ) × (0 < length ds) × (shortest 10 v ≡ 1 ∷ ds))
+first-digit n v l = ((λ r. (r .0, r .2, ap (shortest 10) (r .4) ∙ numeral-of-one (r .0) (r .1))), back)
+  where
+    back : (ds : List ℕ) × (0 < length ds) × (shortest 10 v ≡ 1 ∷ ds) → OneThen n v
+    back (ds, s, e) =
+        let (_, h) : Digits 10 (1 ∷ ds) = rw e at (whole-digits v) in
+        let q : v ≡ value 10 (1 ∷ ds) = sym (value-shortest 10 (lit< tt) v) ∙ ap (value 10) e in
+        let few : length ds ≤ n = ⊎-elim
+        (λ (o : n < length ds). let p : 10 ^ suc n ≤ 10 ^ length ds = pow-le-pow-right (lit< tt) o in absurd (omega (arith, one-then ds, pow-suc 10 n)))
+        (λ (o : length ds ≤ n). o)
+        (lt-or-ge n (length ds)) in
+        (ds, h, s, few, q)
+
+-- so it is for both schemes
+pub narrow-enough : (2 ^ 58 ≤ 3 * 10 ^ 17) × (2 ^ 41 ≤ 3 * 10 ^ 12)
+narrow-enough = (lit≤ tt, lit≤ tt)

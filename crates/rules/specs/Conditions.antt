@@ -167,7 +167,7 @@ WrongGroups k group =
     ⊎ ((i : ℕ) × (j : ℕ) × (i < j) × (j < k) × (group i ≡ 0) × (¬ (group j ≡ 0)))
     ⊎ ((i : ℕ) × (i < k) × (¬ (group i ≡ 0)) × (¬ T (character (group i))))
 
--- 19: integer doesn't read as a 1 and 1 to n digits
+-- 19 of a numeric string: the integer doesn't read as this, a 1 and 1 to n digits
 abbrev pub OneThen : ℕ → ℕ → Type 0
 OneThen n v = (ds : List ℕ) × Digits 10 ds × (0 < length ds) × (length ds ≤ n) × (v ≡ value 10 (1 ∷ ds))
 

@@ -6,7 +6,7 @@ use Rattle.numeral.specs.Numeral.{shortest}
 use Rattle.rules.specs.BankNumbers.{numericIn}
 use Rattle.fields.specs.BitReaders.{codeField}
 use Rattle.fields.proofs.Steps.{taken}
-use Rattle.bank.specs.Reading.{numericOf}
+use Rattle.tens.specs.Numerics.{numericOf}
 use Rattle.bank.proofs.Answers.{refuses}
 use Rattle.bank.proofs.References.{room, serial-lies, no-digits, some-digits}
 use Rattle.bank.proofs.reading.numeric_behind.Statement.{statement}

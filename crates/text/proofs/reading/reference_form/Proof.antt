@@ -1,6 +1,5 @@
 -- `reference_form` meets its contract: the table says which of the two forms it is.
-use mathlib.Core.Path.{_≡_, sym, _∙_}
-use mathlib.Core.Bool.{Bool, cond}
+use mathlib.Core.Path.{sym, _∙_}
 use borrow.Author.Needs.{needs}
 use Rattle.text.proofs.reading.reference_form.Statement.{statement}
 use Rattle.text.proofs.reading.reference_form.Tie as tie

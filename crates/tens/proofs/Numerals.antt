@@ -17,7 +17,7 @@ use Rattle.rules.specs.BankNumbers.{numericIn}
 use Rattle.rules.specs.Conditions.{OneThen}
 use Rattle.rules.proofs.Answers.{Settled}
 use Rattle.rules.proofs.Numerics.{one-then, NumericIs, numeric-settled, one-between}
-use Rattle.bank.specs.Reading.{numericOf}
+use Rattle.tens.specs.Numerics.{numericOf}
 
 -- the next power
 pub next-power : (k : ℕ) → 10 ^ (k + 1) ≡ 10 ^ k * 10
@@ -59,8 +59,8 @@ module _ (n v k : ℕ) (h : Highest n v k) where
   same-count j l p q s =
       ⊎-elim (λ (o : j < k). absurd (omega (arith, h .below s, next-power j, power-le (j + 1) k (omega arith)))) (λ (o : k ≤ j). omega (arith, no-higher j l p)) (lt-or-ge j k)
 
-  pub one-numeric : 0 < k → v - 10 ^ k < 10 ^ k → record { value = v - 10 ^ k; count = k } ≡ numericOf (numericIn n (shortest 10 v))
-  one-numeric z u = go (numericIn n (shortest 10 v)) (numeric-settled n v)
+  pub is-numeric : 0 < k → v - 10 ^ k < 10 ^ k → record { value = v - 10 ^ k; count = k } ≡ numericOf (numericIn n (shortest 10 v))
+  is-numeric z u = go (numericIn n (shortest 10 v)) (numeric-settled n v)
     where
       go : (a : Answer (List ℕ)) → Says n v a → record { value = v - 10 ^ k; count = k } ≡ numericOf a
       go (refused m) s = absurd (s .1 (one-between n v .1 (k, z, h .most, h .below z, omega (arith, h .below z))))

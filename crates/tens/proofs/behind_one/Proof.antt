@@ -4,9 +4,9 @@ use mathlib.Core.Path.{_≡_}
 use mathlib.Core.Logic.{⊎-elim}
 use native.Mathlib.Omega.{arith}
 use borrow.Author.Needs.{needs}
-use Rattle.bank.proofs.Numerals.{next-power, power-le, Highest, no-numeric, none-at-all, none-below, one-numeric}
-use Rattle.bank.proofs.numerics.behind_one.Statement.{statement}
-use Rattle.bank.proofs.numerics.behind_one.Tie as tie
+use Rattle.tens.proofs.Numerals.{next-power, power-le, Highest, no-numeric, none-at-all, none-below, is-numeric}
+use Rattle.tens.proofs.behind_one.Statement.{statement}
+use Rattle.tens.proofs.behind_one.Tie as tie
 
 abbrev Inv-loop : tie.InvT-loop
 Inv-loop v most count₀ one₀ count one = (one ≡ 10 ^ count) × (count ≤ most) × (0 < count → 10 ^ count ≤ v)
@@ -47,7 +47,7 @@ digits : tie.Need-returns-3 Inv-loop μ-loop
 digits c =
     let left = c .before .before in
     let e = left .before .loop .inv .0 in
-    rw e (one-numeric _ _ _ (highest left) (omega (arith, c .before .if2 .left)) (rw e at (c .if3 .left)))
+    rw e (is-numeric _ _ _ (highest left) (omega (arith, c .before .if2 .left)) (rw e at (c .if3 .left)))
 
 pub behind-one-spec : {M : Type 1} → statement M
 behind-one-spec =

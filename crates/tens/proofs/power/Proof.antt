@@ -2,8 +2,8 @@
 use Prim.Native.Nat.{ℕ, suc, _^_, _≤_}
 use mathlib.Core.Path.{_≡_, sym, ap}
 use native.Mathlib.Omega.{arith}
-use Rattle.bank.proofs.powers.power.Statement.{statement}
-use Rattle.bank.proofs.powers.power.Tie as tie
+use Rattle.tens.proofs.power.Statement.{statement}
+use Rattle.tens.proofs.power.Tie as tie
 
 power-at : (k : ℕ) {d : ℕ} → d ≡ k → 10 ^ k ≡ 10 ^ d
 power-at k e = sym (ap (10 ^_) e)

@@ -1,0 +1,2 @@
+-- Laws that the functions of this crate and their callers lean on.
+pub mod Numerals
