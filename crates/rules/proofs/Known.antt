@@ -115,8 +115,10 @@ annex =
     each "urn:epc:tag:sgcn-96:3.4012345.67890.04711" (words6 0x3000_3F74F4E4E612640000019907) ∷
     each "urn:epc:tag:cpi-96:3.0614141.98765.12345" (words6 0x3000_3C74257BF400C0E680003039) ∷ []
 
--- gdti-113: no source has an example. By hand: the 128 bits are 3A at bit 120, the filter at 117, P at 114, the prefix behind the reference
--- at 73, and at 15 the integer of a 1 and the digits: 1007, 15, 2 x 10^17 - 1 and 10123. So the last words of the first are 3EFh x 8000h.
+-- By hand, since no source has an example of gdti-113: the header, the filter, P, the prefix and the reference in the row's bits, the integer
+-- of a 1 and the digits in 58, and 15 zeros, one after the other in binary, and then read as hexadecimal. The first is 00111010 011 101, then
+-- 9521141 in 24 bits, 98765 in 17 and 1007 in 58. The integers are 1007, 15, 2 x 10^17 - 1 and 10123; times 8000h, for the 15 zeros, they end
+-- the codes: 3EFh x 8000h is 1F78000h.
 unfoldable pub by-hand : List Known
 by-hand =
     -- leading zeros
@@ -126,7 +128,9 @@ by-hand =
     -- seventeen nines
     each "urn:epc:tag:gdti-113:7.9521141.98765.99999999999999999" (words8 0x4000_3AF6451FD7039B6345785D89FFFF8000) ∷
     -- an empty reference
-    each "urn:epc:tag:gdti-113:3.952114100001..0123" (words8 0x4000_3A6376B9B0DC84000000000013C58000) ∷ []
+    each "urn:epc:tag:gdti-113:3.952114100001..0123" (words8 0x4000_3A6376B9B0DC84000000000013C58000) ∷
+    -- and sgcn-96 with all its twelve digits: nines, so that the integer, 1D1A94A1FFFh, ends the 96 bits
+    each "urn:epc:tag:sgcn-96:3.9521141.67890.999999999999" (words6 0x3000_3F76451FD61265D1A94A1FFF) ∷ []
 
 -- 001, section 12, lines 5537 and 5543: control bits and an AFI, without the control fields (document 01, "Raw line")
 unfoldable pub section12 : List Known
