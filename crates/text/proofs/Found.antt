@@ -24,7 +24,7 @@ use Rattle.parts.specs.declared.parts.Form.{Form}
 use Rattle.parts.specs.declared.parts.Part.the-variants.{Wrong}
 use Rattle.parts.specs.declared.parts.Part.the-variants.{Is as Found}
 use Rattle.parts.proofs.Standing.{right, part-refused, part-taken}
-use Rattle.parts.specs.declared.parts.End.the-variants.{Is, Refused}
+use Rattle.parts.specs.declared.parts.End.the-variants.{Refused}
 
 -- A part is refused with the number asked for; what is taken does not depend on that number.
 record Right (f : Form) (u ds : List ℕ) : Type 0 where
@@ -96,7 +96,3 @@ module _ (n : ℕ) (f : Form) (text : List ℕ) (at : ℕ) where
 pub last-refused : (n : ℕ) (a : Answer (List ℕ)) → Refused n ≡ endOf a → a ≡ refused n
 last-refused n (refused m) e = cc
 last-refused n (taken p) e = let x : _≡_ {A = ℕ} 0 1 = cc in absurd (omega arith)
-
-pub last-is : (v : ℕ) (a : Answer (List ℕ)) → Is v ≡ endOf a → (p : List ℕ) × (a ≡ taken p) × (v ≡ value 10 p)
-last-is v (refused m) e = let x : _≡_ {A = ℕ} 0 1 = cc in absurd (omega arith)
-last-is v (taken p) e = (p, refl, cc)

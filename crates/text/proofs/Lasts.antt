@@ -24,12 +24,13 @@ use Rattle.alphabet.specs.declared.Spelled.{Spelled}
 use Rattle.alphabet.specs.Strings.{spelledOf}
 use Rattle.scheme.specs.Records.{lastNumber, lastCharacters, lastCount, padded, refusal}
 use Rattle.parts.specs.declared.parts.Form.{Form as CodeForm}
+use Rattle.parts.specs.declared.parts.End.{End}
 use Rattle.parts.specs.declared.parts.End.the-variants.{Is, Refused}
 use Rattle.text.specs.declared.reading.Head.{Head}
 use Rattle.parts.specs.Parts.{formOf}
 use Rattle.parts.specs.Parts.{endOf}
-use Rattle.text.specs.Reading.{tagged, taggedWith, referred, withLast, referenceAlone, assetAlone}
-use Rattle.text.proofs.Found.{Standing, last-refused, last-is}
+use Rattle.text.specs.Reading.{tagged, taggedWith, endedBy, referred, withLast, referenceAlone, assetAlone}
+use Rattle.text.proofs.Found.{Standing, last-refused}
 
 -- a reference, then a last part
 module _ (h : Head) (f : Form) (l : Last) (u : List ℕ) where
@@ -43,30 +44,28 @@ module _ (h : Head) (f : Form) (l : Last) (u : List ℕ) where
     with-last : (q : List ℕ) → lastIn 7 (lastForm l) w ≡ taken q → tagged h (value 10 p) (lastNumber l q) (lastCharacters l q) (lastCount l q) ≡ withLast h l (partsIn (referred f (lastForm l)) u)
     with-last q e = rw (read, sym rest, e)
 
--- the same from the code's parts: an integer
-module _ (h : Head) (f : CodeForm) (b : ℕ) (text : List ℕ) (at v d m : ℕ) (s : Standing 6 f text at v d m) where
-  pub integer-refused : (n : ℕ) → Refused n ≡ endOf (lastIn 7 (integer b) (drop m text)) → refusal n ≡ withLast h (Integer b) (partsIn (referred (formOf f) (integer b)) (drop at text))
-  integer-refused n e = no-last h (formOf f) (Integer b) (drop at text) (s .part) (drop m text) (s .read) (s .rest) n (last-refused n (lastIn 7 (integer b) (drop m text)) e)
-
-  pub integer-taken : (k : ℕ) → Is k ≡ endOf (lastIn 7 (integer b) (drop m text)) → taggedWith h v k (replicate 20 0) 0 ≡ withLast h (Integer b) (partsIn (referred (formOf f) (integer b)) (drop at text))
-  integer-taken k e =
-      let (q, r, x) = last-is k (lastIn 7 (integer b) (drop m text)) e in
-      rw (s .value-is, x) (with-last h (formOf f) (Integer b) (drop at text) (s .part) (drop m text) (s .read) (s .rest) q r)
+-- the same from what the code has read: digits that end the text, k of them where they are a numeric string
+module _ (h : Head) (f : CodeForm) (l : Last) (text : List ℕ) (at v d m : ℕ) (s : Standing 6 f text at v d m) (e : End) (read : e ≡ endOf (lastIn 7 (lastForm l) (drop m text))) where
+  ended : (k : ℕ) → ((q : List ℕ) → lastIn 7 (lastForm l) (drop m text) ≡ taken q → tagged h v (value 10 q) [] k ≡ tagged h v (lastNumber l q) (lastCharacters l q) (lastCount l q))
+      → endedBy h v e k ≡ withLast h l (partsIn (referred (formOf f) (lastForm l)) (drop at text))
+  ended k right = rw read (go (lastIn 7 (lastForm l) (drop m text)) refl)
+    where
+      go : (a : Answer (List ℕ)) → lastIn 7 (lastForm l) (drop m text) ≡ a → endedBy h v (endOf a) k ≡ withLast h l (partsIn (referred (formOf f) (lastForm l)) (drop at text))
+      go (refused n) r = no-last h (formOf f) l (drop at text) (s .part) (drop m text) (s .read) (s .rest) n r
+      go (taken q) r = right q r ∙ rw (s .value-is) (with-last h (formOf f) l (drop at text) (s .part) (drop m text) (s .read) (s .rest) q r)
 
 -- a numeric string has as many digits as the rest of the text has bytes
 all-of-it : (n : ℕ) (u q : List ℕ) → lastIn 7 (numeric 0 n) u ≡ taken q → length u ≡ length q
 all-of-it n u q e = let r = rw e at (last-reads 7 (numeric 0 n) u (lit< tt)) in ap length (r .1 .1) ∙ length-text q
 
-module _ (h : Head) (f : CodeForm) (n : ℕ) (text : List ℕ) (at v d m : ℕ) (s : Standing 6 f text at v d m) where
-  pub numeric-refused : (k : ℕ) → Refused k ≡ endOf (lastIn 7 (numeric 0 n) (drop m text)) → refusal k ≡ withLast h (Numeric 0 n) (partsIn (referred (formOf f) (numeric 0 n)) (drop at text))
-  numeric-refused k e = no-last h (formOf f) (Numeric 0 n) (drop at text) (s .part) (drop m text) (s .read) (s .rest) k (last-refused k (lastIn 7 (numeric 0 n) (drop m text)) e)
+module _ (h : Head) (f : CodeForm) (n : ℕ) (text : List ℕ) (at v d m : ℕ) (s : Standing 6 f text at v d m) (e : End) where
+  pub integer-ended : e ≡ endOf (lastIn 7 (integer n) (drop m text)) → endedBy h v e 0 ≡ withLast h (Integer n) (partsIn (referred (formOf f) (integer n)) (drop at text))
+  integer-ended read = ended h f (Integer n) text at v d m s e read 0 λ q r. refl
 
-  pub numeric-taken : (k : ℕ) → Is k ≡ endOf (lastIn 7 (numeric 0 n) (drop m text)) → taggedWith h v k (replicate 20 0) (length text - m) ≡ withLast h (Numeric 0 n) (partsIn (referred (formOf f) (numeric 0 n)) (drop at text))
-  numeric-taken k e =
-      let (q, r, x) = last-is k (lastIn 7 (numeric 0 n) (drop m text)) e in
-      let c : length text - m ≡ length q = sym (length-drop m text) ∙ all-of-it n (drop m text) q r in
-      rw (s .value-is, x, c)
-      (with-last h (formOf f) (Numeric 0 n) (drop at text) (s .part) (drop m text) (s .read) (s .rest) q r)
+  pub numeric-ended : e ≡ endOf (lastIn 7 (numeric 0 n) (drop m text)) → endedBy h v e (length text - m) ≡ withLast h (Numeric 0 n) (partsIn (referred (formOf f) (numeric 0 n)) (drop at text))
+  numeric-ended read =
+      ended h f (Numeric 0 n) text at v d m s e read (length text - m) λ q r.
+      ap (tagged h v (value 10 q) []) (sym (length-drop m text) ∙ all-of-it n (drop m text) q r)
 
 -- a string that is the last part
 module _ (b : ℕ) (w : List ℕ) (s : Spelled) (e : s ≡ spelledOf (charactersIn w)) where
@@ -121,12 +120,9 @@ module _ (h : Head) where
   pub not-alone : (m : ℕ) (a : Answer (List ℕ)) → Refused m ≡ endOf a → refusal m ≡ referenceAlone h (one a)
   not-alone m a e = rw (last-refused m a e)
 
-  pub asset : (v : ℕ) (a : Answer (List ℕ)) → Is v ≡ endOf a → taggedWith h 0 v (replicate 20 0) 0 ≡ assetAlone h (one a)
-  asset v (refused n) e = let x : _≡_ {A = ℕ} 0 1 = cc in absurd (omega arith)
-  asset v (taken p) e = ap (λ y. taggedWith h 0 y (replicate 20 0) 0) (let q : v ≡ value 10 p = cc in q)
-
-  pub no-asset : (m : ℕ) (a : Answer (List ℕ)) → Refused m ≡ endOf a → refusal m ≡ assetAlone h (one a)
-  no-asset m a e = rw (last-refused m a e)
+  pub asset : (a : Answer (List ℕ)) (e : End) → e ≡ endOf a → endedBy h 0 e 0 ≡ assetAlone h (one a)
+  asset (refused n) e r = rw r
+  asset (taken p) e r = rw r
 
 -- the bits of a reference, and of a numeric string, play no part in the text
 row-read : (t : Table) (b n : ℕ) (g : Form) (u : List ℕ) → partsIn (referred (counted t 0 n) g) u ≡ partsIn (referred (counted t b n) g) u

@@ -10,6 +10,8 @@ use Rattle.rules.specs.Schemes.{Form}
 use Rattle.rules.specs.Grammar.{reference, last, Layout, part, end}
 use Rattle.scheme.specs.declared.record.Reading.{Reading}
 use Rattle.scheme.specs.Records.{partAt, valueAt, lastNumber, lastCharacters, lastCount, padded, refusal, readingOf}
+use Rattle.parts.specs.declared.parts.End.{End}
+use Rattle.parts.specs.declared.parts.End.the-variants.{Is, Refused}
 use Rattle.text.specs.declared.reading.Head.{Head}
 
 -- the record of what is read: its head, the reference, and the last part as a number, as characters, and their count
@@ -30,6 +32,11 @@ taggedWith h r n cs k = record {
 
 abbrev pub tagged : Head → ℕ → ℕ → List ℕ → ℕ → Reading
 tagged h r n cs k = taggedWith h r n (padded cs) k
+
+-- the same of digits that end the text, or their refusal
+abbrev pub endedBy : Head → ℕ → End → ℕ → Reading
+endedBy h r (Is v) k = tagged h r v [] k
+endedBy h r (Refused n) k = refusal n
 
 -- a reference with a dot behind it, and a last part
 abbrev pub referred : Form → Form → Layout

@@ -30,7 +30,7 @@ ghost use Rattle.scheme.specs.Outlines.{Narrow};
 ghost use Rattle.scheme.specs.Records.{readingOf};
 ghost use Rattle.digits.specs.Starts.{begun};
 ghost use Rattle.parts.specs.Parts.{formOf, Short};
-ghost use Rattle.text.specs.Reading.{taggedWith, referred, withLast, referenceAlone, assetAlone, behindPrefix, readAs};
+ghost use Rattle.text.specs.Reading.{taggedWith, endedBy, referred, withLast, referenceAlone, assetAlone, behindPrefix, readAs};
 
 // How many characters `urn:epc:tag:` has.
 const START: usize = 12;
@@ -75,6 +75,16 @@ fn tagged(
     }
 }
 
+// The record of a head, a reference and the digits that end the text, `count` of them where they are a numeric string; or their refusal.
+fn ended(head: Head, reference: u64, end: End, count: usize) -> Reading
+    ensures { λ r. ⌜ r ≡ endedBy head reference end count ⌝ }
+{
+    match end {
+        End::Is(serial) => tagged(head, reference, serial, [0; MOST_CHARACTERS], count),
+        End::Refused(n) => refused(n),
+    }
+}
+
 // A reference, then an integer.
 fn with_integer(text: &[u8], at: usize, head: Head, reference: Form, bits: usize) -> Reading
     requires { ⌜ (at ≤ length (now text)) × Short reference × (bits ≤ 63) ⌝ }
@@ -83,10 +93,7 @@ fn with_integer(text: &[u8], at: usize, head: Head, reference: Form, bits: usize
     let Part::Is(value, _, next) = part_at(text, at, reference) else {
         return refused(refusal::REFERENCE);
     };
-    match integer_to_end(text, next, bits) {
-        End::Is(serial) => tagged(head, value, serial, [0; MOST_CHARACTERS], 0),
-        End::Refused(n) => refused(n),
-    }
+    ended(head, value, integer_to_end(text, next, bits), 0)
 }
 
 // A reference, then a string.
@@ -116,10 +123,8 @@ fn with_numeric(text: &[u8], at: usize, head: Head, reference: Form, most: usize
     let Part::Is(value, _, next) = part_at(text, at, reference) else {
         return refused(refusal::REFERENCE);
     };
-    match numeric_to_end(text, next, most) {
-        End::Is(serial) => tagged(head, value, serial, [0; MOST_CHARACTERS], text.len() - next),
-        End::Refused(n) => refused(n),
-    }
+    let end = numeric_to_end(text, next, most);
+    ended(head, value, end, text.len() - next)
 }
 
 // A reference of so many digits, to the end of the text.
@@ -138,10 +143,7 @@ fn asset_alone(text: &[u8], at: usize, head: Head, bits: usize) -> Reading
     requires { ⌜ (at ≤ length (now text)) × (bits ≤ 63) ⌝ }
     ensures { λ r. ⌜ r ≡ assetAlone head (partsIn (end last (integer bits)) (drop at (now (text .entry)))) ⌝ }
 {
-    match integer_to_end(text, at, bits) {
-        End::Is(serial) => tagged(head, 0, serial, [0; MOST_CHARACTERS], 0),
-        End::Refused(n) => refused(n),
-    }
+    ended(head, 0, integer_to_end(text, at, bits), 0)
 }
 
 // The digits of the reference in the row that the prefix picks.

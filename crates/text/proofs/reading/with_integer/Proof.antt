@@ -5,7 +5,7 @@ use borrow.Author.Needs.{needs}
 use Rattle.rules.specs.declared.Last.the-variants.{Integer}
 use Rattle.parts.specs.Parts.{formOf}
 use Rattle.text.proofs.Found.{Standing, wrong, stands}
-use Rattle.text.proofs.Lasts.{no-reference, integer-refused, integer-taken}
+use Rattle.text.proofs.Lasts.{no-reference, integer-ended}
 use Rattle.text.proofs.reading.with_integer.Statement.{statement}
 use Rattle.text.proofs.reading.with_integer.Tie as tie
 
@@ -29,19 +29,10 @@ inside c κs = (reference (c .before) .within, c .before .before .before .before
 
 returns-2 : tie.Need-returns-2
 returns-2 c =
-    let n = c .before .before in
-    let l = n .before .before in
+    let l = c .before in
     let v = l .before .before in
     let x = v .before .before .before .before .args in
-    c .tagged .ensures ∙ integer-taken (x .head) (x .reference) (x .bits) (x .text .now) (x .at) _ _ _ (reference v) (n .serial .given .0 .0) (sym (n .serial .given .1) ∙ l .integer-to-end .ensures)
-
-returns-3 : tie.Need-returns-3
-returns-3 c =
-    let n = c .before .before in
-    let l = n .before .before in
-    let v = l .before .before in
-    let x = v .before .before .before .before .args in
-    c .refused2 .ensures ∙ integer-refused (x .head) (x .reference) (x .bits) (x .text .now) (x .at) _ _ _ (reference v) (n .n .given .0 .0) (sym (n .n .given .1) ∙ l .integer-to-end .ensures)
+    c .ended .ensures ∙ integer-ended (x .head) (x .reference) (x .bits) (x .text .now) (x .at) _ _ _ (reference v) _ (l .integer-to-end .ensures)
 
 pub with-integer-spec : {M : Type 1} → statement M
 with-integer-spec =
@@ -53,9 +44,5 @@ with-integer-spec =
     (λ c κs. search needs)
     returns
     inside
-    (λ c. search needs)
     (λ c κs. search needs)
-    (λ c. search needs)
-    (λ c κs. search needs)
-    returns-2
-    returns-3)
+    returns-2)

@@ -5,7 +5,7 @@ use borrow.Author.Needs.{needs}
 use Rattle.rules.specs.declared.Last.the-variants.{Numeric}
 use Rattle.parts.specs.Parts.{formOf}
 use Rattle.text.proofs.Found.{Standing, wrong, stands}
-use Rattle.text.proofs.Lasts.{no-reference, numeric-refused, numeric-taken}
+use Rattle.text.proofs.Lasts.{no-reference, numeric-ended}
 use Rattle.text.proofs.reading.with_numeric.Statement.{statement}
 use Rattle.text.proofs.reading.with_numeric.Tie as tie
 
@@ -29,19 +29,10 @@ inside c κs = (reference (c .before) .within, c .before .before .before .before
 
 returns-2 : tie.Need-returns-2
 returns-2 c =
-    let n = c .before .before in
-    let l = n .before .before in
+    let l = c .before in
     let v = l .before .before in
     let x = v .before .before .before .before .args in
-    c .tagged .ensures ∙ numeric-taken (x .head) (x .reference) (x .most) (x .text .now) (x .at) _ _ _ (reference v) (n .serial .given .0 .0) (sym (n .serial .given .1) ∙ l .numeric-to-end .ensures)
-
-returns-3 : tie.Need-returns-3
-returns-3 c =
-    let n = c .before .before in
-    let l = n .before .before in
-    let v = l .before .before in
-    let x = v .before .before .before .before .args in
-    c .refused2 .ensures ∙ numeric-refused (x .head) (x .reference) (x .most) (x .text .now) (x .at) _ _ _ (reference v) (n .n .given .0 .0) (sym (n .n .given .1) ∙ l .numeric-to-end .ensures)
+    c .ended .ensures ∙ numeric-ended (x .head) (x .reference) (x .most) (x .text .now) (x .at) _ _ _ (reference v) _ (l .numeric-to-end .ensures)
 
 pub with-numeric-spec : {M : Type 1} → statement M
 with-numeric-spec =
@@ -53,10 +44,6 @@ with-numeric-spec =
     (λ c κs. search needs)
     returns
     inside
-    (λ c. search needs)
-    (λ c. reference (c .before .before .before .before .before) .within)
+    (λ c. reference (c .before .before) .within)
     (λ c κs. search needs)
-    (λ c. search needs)
-    (λ c κs. search needs)
-    returns-2
-    returns-3)
+    returns-2)
