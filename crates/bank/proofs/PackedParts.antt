@@ -8,7 +8,7 @@ use lib.Dec.{leb, leb→le, ltb→lt, eqb→eq, lit<}
 use lib.ListN.{length, take, replicate, length-replicate, replicate-append-replicate}
 use lib.Seq.{take-at, take-take, take-append-add}
 use Rattle.numeral.specs.Numeral.{value, Digits, spread}
-use Rattle.numeral.proofs.Values.{value-lt, digits-append, digits-take, digits-zeros}
+use Rattle.numeral.proofs.Values.{value-lt, numeral-value, digits-append, digits-take, digits-zeros}
 use Rattle.rules.specs.declared.Scheme.{Scheme}
 use Rattle.rules.specs.declared.Table.{Table}
 use Rattle.rules.specs.declared.Last.{Last}
@@ -23,9 +23,10 @@ use Rattle.rules.specs.Coding.{binary, filled, partBits, coded}
 use Rattle.rules.proofs.Tests.{both}
 use Rattle.rules.proofs.Decimals.{all-digits}
 use Rattle.rules.proofs.Rows.{by-count, by-row}
-use Rattle.rules.proofs.Numerics.{one-then, numeric-fits}
+use Rattle.rules.proofs.Numerics.{numeric-fits}
 use Rattle.rules.proofs.Fields.{characters-are, filled-is}
 use Rattle.rules.proofs.Codes.{RowSizes, PartSizes, content, sizes}
+use Rattle.tens.specs.Numerics.{oneBefore}
 use Rattle.scheme.specs.declared.record.Record.{Record}
 use Rattle.scheme.specs.Outlines.{Narrow}
 use Rattle.scheme.proofs.Widths.{parts-narrow}
@@ -110,11 +111,11 @@ numeric-room : (t : Table) (n k w : ℕ) → PartSizes (F (Then t (Numeric n k))
 numeric-room t n k w h = by-row (λ P r. RowSizes (Then t (Numeric n k)) w r) (h .1) 0 (lit< tt) .2 .1
 
 numeric-kept : (n k : ℕ) (ds : List ℕ) → Fit (numeric n k) ds → (32 ≤ n) × (n ≤ 62) × (0 < k) × (k ≤ 17) → 2 * 10 ^ k ≤ 2 ^ n
-    → (length ds ≤ 17) × (value 10 ds < 10 ^ length ds) × Wide n (10 ^ length ds + value 10 ds)
+    → (length ds ≤ 17) × (value 10 ds < 10 ^ length ds) × Wide n (oneBefore (length ds) (value 10 ds))
 numeric-kept n k ds h l room =
     let few : length ds ≤ k = leb→le (length ds) k (h .size) in
     let d = all-digits ds (h .symbols) in
-    (omega arith, value-lt 10 ds d, record { least = l .0; most = l .1; small = rw (← one-then ds) (numeric-fits n k ds d few room) })
+    (omega arith, value-lt 10 ds d, record { least = l .0; most = l .1; small = rw (numeral-value 10 ds d) (numeric-fits n k ds d few room) })
 
 -- The record of parts, and what is to be shown of it.
 abbrev recordWith : Scheme → Parts → List (List ℕ) → Record
@@ -140,7 +141,7 @@ last-packs : (t : Table) (l : Last) (w : ℕ) (y : List ℕ) (r : Record) → r 
     → Narrow (F (Then t l)) → PartSizes (F (Then t l)) w → Fit (lastForm l) y → KeepsLast l r × (lastBits l r ≡ partBits (lastForm l) y)
 last-packs t (Integer n) w y r es ec en l p h = rw es (number n y l h, refl)
 last-packs t (String n) w y r es ec en l p h = rw ec ((string-groups n y h l, l .2), string-is n y h l)
-last-packs t (Numeric n k) w y r es ec en l p h = rw (es, en) (numeric-kept n k y h l (numeric-room t n k w p), ap (binary n) (sym (one-then y)))
+last-packs t (Numeric n k) w y r es ec en l p h = rw (es, en) (numeric-kept n k y h l (numeric-room t n k w p), ap (λ ds. binary n (value 10 (1 ∷ ds))) (numeral-value 10 y (all-digits y (h .symbols))))
 
 packs : (s : Scheme) (p : Parts) (w : ℕ) (ps : List (List ℕ)) → Narrow p → PartSizes p w → Fits (laid p) ps → Packs s p ps
 packs s (F (Then t l)) w ps n z h =

@@ -14,6 +14,7 @@ use Rattle.rules.specs.Schemes.{cell, assetBits, partition, prefixBits, rowOf}
 use Rattle.rules.specs.Coding.{binary}
 use Rattle.bits.specs.declared.Stream.{Stream}
 use Rattle.bits.specs.Streams.{Sound}
+use Rattle.tens.specs.Numerics.{oneBefore}
 use Rattle.scheme.specs.declared.outlines.Outline.{Outline}
 use Rattle.scheme.specs.declared.record.Record.{Record}
 
@@ -69,12 +70,12 @@ pub record Number (n v : ℕ) : Type 0 where
 abbrev pub KeepsLast : Last → Record → Type 0
 KeepsLast (Integer n) r = Number n (r .serial)
 KeepsLast (String n) r = Digits 128 (r .characters) × (n / 7 ≤ 20)
-KeepsLast (Numeric n k) r = (r .count ≤ 17) × (r .serial < 10 ^ r .count) × Wide n (10 ^ r .count + r .serial)
+KeepsLast (Numeric n k) r = (r .count ≤ 17) × (r .serial < 10 ^ r .count) × Wide n (oneBefore (r .count) (r .serial))
 
 abbrev pub lastBits : Last → Record → List ℕ
 lastBits (Integer n) r = binary n (r .serial)
 lastBits (String n) r = spread 2 7 (take (n / 7) (r .characters))
-lastBits (Numeric n k) r = binary n (10 ^ r .count + r .serial)
+lastBits (Numeric n k) r = binary n (oneBefore (r .count) (r .serial))
 
 -- what follows the company prefix; the zero bits at the end of a code are no field
 abbrev pub KeepsBehind : Body → Record → Type 0

@@ -5,7 +5,7 @@ use mathlib.Core.Logic.{inl, inr}
 use mathlib.Core.List.{List, [], _∷_, _++_, append-assoc}
 use mathlib.Core.Bool.{not}
 use native.Mathlib.Omega.{arith}
-use lib.Dec.{T, leb, ltb, eqb, le→leb, ltb→lt, lt→ltb, nltb→le, eqb→eq, eqb-refl, lit<}
+use lib.Dec.{T, leb, eqb, le→leb, lt→ltb, eqb→eq, eqb-refl, lit<}
 use lib.ListN.{length, getD, take, drop, length-append, length-replicate, length-drop, take-append-drop}
 use lib.Seq.{length-take-le}
 use Rattle.numeral.specs.Numeral.{value, Digits, spread, gather, shortest}
@@ -22,7 +22,7 @@ use Rattle.rules.proofs.Tests.{and, apart, not-not}
 use Rattle.rules.proofs.Answers.{Reads, settled-demand, settled-as, check, step, reads-weaken}
 use Rattle.rules.proofs.Decimals.{digits-all}
 use Rattle.rules.proofs.Rows.{row-fair}
-use Rattle.rules.proofs.Numbers.{front, DecimalIs, decimal-reads, whole-digits, whole-is}
+use Rattle.rules.proofs.Numbers.{front, few-digits-reads, DecimalIs, decimal-reads, whole-digits, whole-is}
 use Rattle.rules.proofs.Groups.{StringIs, string-settled}
 use Rattle.rules.proofs.Numerics.{NumericIs, numeric-settled}
 use Rattle.rules.proofs.Fields.{Roomy, filled-is}
@@ -104,11 +104,10 @@ field-reads (digits b n) l r d w =
     (record { symbols = i .0; shape = rw (i .1) (eqb-refl n); size = tt }, i .2)
 field-reads (atMost b n) l r d w =
     let v = value 2 (take b l) in
-    check [] (FieldIs (atMost b n) l) 18 (10 ^ n ≤ v) (T (ltb v (10 ^ n))) (demand (ltb v (10 ^ n)) 18) _ (lit< tt)
-    (settled-demand 18 (10 ^ n ≤ v) (ltb v (10 ^ n)) (nltb→le v (10 ^ n)) (λ t k. omega (arith, ltb→lt v (10 ^ n) t))) λ t.
     let p = shortest 10 v in
-    let m : length p ≤ n = omega (arith, length-shortest 10 (lit< tt) v, size-le 10 (lit< tt) v n (r .1) (ltb→lt v (10 ^ n) t)) in
-    (tt, (record { symbols = digits-all p (whole-digits v); shape = and (plainNumber p) (leb (length p) n) (whole-is v) (le→leb (length p) n m); size = tt }, rw (value-shortest 10 (lit< tt), front b l d w .0) (sym (take-append-drop b l))))
+    few-digits-reads 18 n v (FieldIs (atMost b n) l) (field p b l) (lit< tt) λ s.
+    let m : length p ≤ n = omega (arith, length-shortest 10 (lit< tt) v, size-le 10 (lit< tt) v n (r .1) s) in
+    (record { symbols = digits-all p (whole-digits v); shape = and (plainNumber p) (leb (length p) n) (whole-is v) (le→leb (length p) n m); size = tt }, rw (value-shortest 10 (lit< tt), front b l d w .0) (sym (take-append-drop b l)))
 field-reads (numeric b n) l r d w =
     let v = value 2 (take b l) in
     step [] (FieldIs (numeric b n) l) 19 (¬ (OneThen n v)) (NumericIs n v) (numericIn n (shortest 10 v)) _ (lit< tt) (numeric-settled n v) λ ds i.

@@ -94,7 +94,7 @@ rows1to14 =
     raw (words6 0x3000_330000000000044000000005) "urn:epc:raw:96.x330000000000044000000005" ∷
     bank [] 9 ∷ []
 
--- 001, annex E.3, lines 11955 to 12200, as corrected in docs; the last two are those of 000, lines 5057 and 5069
+-- 001, annex E.3, lines 11955 to 12200, as corrected in docs; the last two are those of 000, lines 5069 and 5057
 unfoldable pub annex : List Known
 annex =
     each "urn:epc:tag:sgtin-96:3.95060001343.05.123456789" (words6 0x3000_3066C4409047E140075BCD15) ∷

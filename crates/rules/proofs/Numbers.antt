@@ -10,11 +10,11 @@ use lib.Seq.{take-at, drop-at, length-take-le}
 use Rattle.numeral.specs.Numeral.{value, numeral, Digits, size, shortest}
 use Rattle.numeral.proofs.Values.{length-numeral, digits-numeral, digits-take, value-lt, value-numeral-lt, numeral-of-value}
 use Rattle.numeral.proofs.Shortest.{shortest-small, shortest-value, value-shortest, length-shortest, size-pos, size-le}
-use Rattle.rules.specs.Answers.{taken, demand}
+use Rattle.rules.specs.Answers.{taken, demand, _>>_}
 use Rattle.rules.specs.Bytes.{all}
 use Rattle.rules.specs.Grammar.{digit, plainNumber}
 use Rattle.rules.specs.Coding.{binary}
-use Rattle.rules.specs.BankNumbers.{Field, decimal}
+use Rattle.rules.specs.BankNumbers.{Field, field, decimal}
 use Rattle.rules.specs.Conditions.{rule}
 use Rattle.rules.proofs.Tests.{is-true}
 use Rattle.rules.proofs.Answers.{Reads, settled-demand, check}
@@ -30,6 +30,13 @@ front b l h r =
 pub read : (b v : ℕ) (z : List ℕ) → v < 2 ^ b → (value 2 (take b (binary b v ++ z)) ≡ v) × (drop b (binary b v ++ z) ≡ z)
 read b v z l = (rw (take-at (binary b v) z b (length-numeral 2 b v)) (value-numeral-lt 2 b v l), drop-at (binary b v) z b (length-numeral 2 b v))
 
+-- a number that is refused with m where it has more than n digits
+pub few-digits-reads : (m n v : ℕ) (R : Field → Type 0) (c : Field) → 0 < m → (v < 10 ^ n → R c) → Reads (rule m (10 ^ n ≤ v) ∷ []) R (demand (ltb v (10 ^ n)) m >> taken c)
+few-digits-reads m n v R c z h =
+    check [] R m (10 ^ n ≤ v) (T (ltb v (10 ^ n))) (demand (ltb v (10 ^ n)) m) (taken c) z
+    (settled-demand m (10 ^ n ≤ v) (ltb v (10 ^ n)) (nltb→le v (10 ^ n)) (λ t k. omega (arith, ltb→lt v (10 ^ n) t))) λ t.
+    (tt, h (ltb→lt v (10 ^ n) t))
+
 -- A number of n digits in b bits.
 abbrev pub DecimalIs : ℕ → ℕ → List ℕ → Field → Type 0
 DecimalIs b n l c = T (all digit (c .symbols)) × (length (c .symbols) ≡ n) × (l ≡ binary b (value 10 (c .symbols)) ++ c .rest)
@@ -37,9 +44,8 @@ DecimalIs b n l c = T (all digit (c .symbols)) × (length (c .symbols) ≡ n) ×
 pub decimal-reads : (m b n : ℕ) (l : List ℕ) → 0 < m → Digits 2 l → b ≤ length l → Reads (rule m (10 ^ n ≤ value 2 (take b l)) ∷ []) (DecimalIs b n l) (decimal m b n l)
 decimal-reads m b n l z h w =
     let v = value 2 (take b l) in
-    check [] (DecimalIs b n l) m (10 ^ n ≤ v) (T (ltb v (10 ^ n))) (demand (ltb v (10 ^ n)) m) _ z
-    (settled-demand m (10 ^ n ≤ v) (ltb v (10 ^ n)) (nltb→le v (10 ^ n)) (λ t k. omega (arith, ltb→lt v (10 ^ n) t))) λ t.
-    (tt, (digits-all (numeral 10 n v) (digits-numeral 10 n v (lit< tt)), length-numeral 10 n v, rw (value-numeral-lt 10 n v (ltb→lt v (10 ^ n) t), front b l h w .0) (sym (take-append-drop b l))))
+    few-digits-reads m n v (DecimalIs b n l) (field (numeral 10 n v) b l) z λ s.
+    (digits-all (numeral 10 n v) (digits-numeral 10 n v (lit< tt)), length-numeral 10 n v, rw (value-numeral-lt 10 n v s, front b l h w .0) (sym (take-append-drop b l)))
 
 pub decimal-of : (m b n : ℕ) (ds z : List ℕ) → Digits 10 ds → length ds ≡ n → 10 ^ n ≤ 2 ^ b
     → decimal m b n (binary b (value 10 ds) ++ z) ≡ taken (record { symbols = ds; rest = z })

@@ -29,6 +29,15 @@ one-then ds = omega arith
 pub numeral-of-one : (ds : List ℕ) → Digits 10 ds → shortest 10 (value 10 (1 ∷ ds)) ≡ 1 ∷ ds
 numeral-of-one ds h = shortest-value 10 (lit< tt) 1 ds (lit< tt, h) (lit< tt)
 
+-- the integer of a numeric string has this numeral, and an integer with this numeral is that of its digits
+numeral-is : (n v : ℕ) (r : OneThen n v) → shortest 10 v ≡ 1 ∷ r .0
+numeral-is n v r = ap (shortest 10) (r .4) ∙ numeral-of-one (r .0) (r .1)
+
+numeral-says : (v : ℕ) (ds : List ℕ) → shortest 10 v ≡ 1 ∷ ds → Digits 10 ds × (v ≡ value 10 (1 ∷ ds))
+numeral-says v ds e =
+    let h : Digits 10 (1 ∷ ds) = rw e at (whole-digits v) in
+    (h .1, sym (value-shortest 10 (lit< tt) v) ∙ ap (value 10) e)
+
 -- no two numeric strings have one integer
 pub one-numeric : (ds es : List ℕ) → Digits 10 ds → Digits 10 es → value 10 (1 ∷ ds) ≡ value 10 (1 ∷ es) → ds ≡ es
 one-numeric ds es h k e = cc (sym (numeral-of-one ds h) ∙ ap (shortest 10) e ∙ numeral-of-one es k)
@@ -53,15 +62,13 @@ NumericIs n v ds = Digits 10 ds × T (ltb 0 (length ds)) × T (leb (length ds) n
 pub numeric-settled : (n v : ℕ) → Settled 19 (¬ (OneThen n v)) (NumericIs n v) (numericIn n (shortest 10 v))
 numeric-settled n v = go (shortest 10 v) refl
   where
-    -- a numeric string's numeral has a 1 before its digits
     same : (l : List ℕ) → shortest 10 v ≡ l → (r : OneThen n v) → l ≡ 1 ∷ r .0
-    same l e r = sym e ∙ ap (shortest 10) (r .4) ∙ numeral-of-one (r .0) (r .1)
+    same l e r = sym e ∙ numeral-is n v r
 
     judge : (es : List ℕ) → shortest 10 v ≡ 1 ∷ es → (b : Bool) → counts n es ≡ b → Settled 19 (¬ (OneThen n v)) (NumericIs n v) (demand b 19 >> taken es)
     judge es e true c =
         let (s, l) = both (ltb 0 (length es)) (leb (length es) n) (rw c tt) in
-        let (_, h) : Digits 10 (1 ∷ es) = rw e at (whole-digits v) in
-        let q : v ≡ value 10 (1 ∷ es) = sym (value-shortest 10 (lit< tt) v) ∙ ap (value 10) e in
+        let (h, q) = numeral-says v es e in
         (λ none. none (es, h, ltb→lt 0 (length es) s, leb→le (length es) n l, q), (h, s, l, q))
     judge es e false c = (
       refl,
@@ -100,17 +107,17 @@ one-between n v = (forth, back)
 
 -- where no integer reaches 3 x 10^n, the first digit decides, and that another follows it: only 0, 1 and what begins with 2 to 9 is none
 pub first-digit : (n v : ℕ) → v < 3 * 10 ^ n → OneThen n v ↔ ((ds : List ℕ) × (0 < length ds) × (shortest 10 v ≡ 1 ∷ ds))
-first-digit n v l = ((λ r. (r .0, r .2, ap (shortest 10) (r .4) ∙ numeral-of-one (r .0) (r .1))), back)
+first-digit n v l = ((λ r. (r .0, r .2, numeral-is n v r)), back)
   where
     back : (ds : List ℕ) × (0 < length ds) × (shortest 10 v ≡ 1 ∷ ds) → OneThen n v
     back (ds, s, e) =
-        let (_, h) : Digits 10 (1 ∷ ds) = rw e at (whole-digits v) in
-        let q : v ≡ value 10 (1 ∷ ds) = sym (value-shortest 10 (lit< tt) v) ∙ ap (value 10) e in
-        let few : length ds ≤ n = ⊎-elim
-        (λ (o : n < length ds). let p : 10 ^ suc n ≤ 10 ^ length ds = pow-le-pow-right (lit< tt) o in absurd (omega (arith, one-then ds, pow-suc 10 n)))
-        (λ (o : length ds ≤ n). o)
-        (lt-or-ge n (length ds)) in
-        (ds, h, s, few, q)
+        let (h, q) = numeral-says v ds e in
+        (ds, h, s, ⊎-elim (λ o. absurd (too-many o q)) (λ o. o) (lt-or-ge n (length ds)), q)
+      where
+        too-many : n < length ds → v ≡ value 10 (1 ∷ ds) → ⊥
+        too-many o q =
+            let p : 10 ^ suc n ≤ 10 ^ length ds = pow-le-pow-right (lit< tt) o in
+            omega (arith, one-then ds, pow-suc 10 n)
 
 -- so it is for both schemes
 pub narrow-enough : (2 ^ 58 ≤ 3 * 10 ^ 17) × (2 ^ 41 ≤ 3 * 10 ^ 12)

@@ -1,4 +1,5 @@
--- When each number applies, by itself and in the words of document 01 ("Numbers given, and when") and document 02 (C-11), apart from the readers of TextNumbers and BankNumbers.
+-- When each number applies, by itself and in the words of document 01 ("Numbers given, and when") and document 02 (C-11), apart from the
+-- readers of TextNumbers and BankNumbers.
 use Prim.Native.Nat.{ℕ, _+_, _-_, _*_, _/_, _^_, _≤_, _<_}
 use mathlib.Core.Path.{_≡_}
 use mathlib.Core.Logic.{_⊎_}

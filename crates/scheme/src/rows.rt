@@ -1,4 +1,5 @@
-// The rows of the partition tables (document 01, "The thirteen schemes", and document 02, C-11): by partition value, and by the digits of a company prefix.
+// The rows of the partition tables (document 01, "The thirteen schemes", and document 02, C-11): by partition value, and by the digits of
+// a company prefix.
 use rules::Table;
 ghost use mathlib.Core.Path.{_≡_};
 ghost use Prim.Native.Nat.{_≤_, _<_};

@@ -1,7 +1,7 @@
 -- The numeric string of an integer v, by the highest power of ten that is not above it: v reads as a 1 and k digits exactly if 10^k is that
 -- power, and v is below twice it.
 use Prim.Native.Nat.{ℕ, _+_, _-_, _*_, _^_, _≤_, _<_}
-use mathlib.Core.Path.{_≡_, refl}
+use mathlib.Core.Path.{_≡_, refl, sym, _∙_}
 use mathlib.Core.Logic.{⊎-elim}
 use mathlib.Core.List.{List}
 use native.Mathlib.Nat.{pow-le-pow-right, pow-suc}
@@ -9,15 +9,15 @@ use native.Mathlib.Numerals.{add-one}
 use native.Mathlib.Omega.{arith}
 use lib.Dec.{lit<, ltb→lt, leb→le}
 use lib.ListN.{length}
-use Rattle.numeral.specs.Numeral.{value, shortest}
+use Rattle.numeral.specs.Numeral.{value, numeral, shortest}
 use Rattle.numeral.proofs.Arithmetic.{lt-or-ge}
-use Rattle.numeral.proofs.Values.{value-lt}
+use Rattle.numeral.proofs.Values.{value-lt, length-numeral, value-numeral-lt}
 use Rattle.rules.specs.Answers.{Answer, refused, taken}
 use Rattle.rules.specs.BankNumbers.{numericIn}
 use Rattle.rules.specs.Conditions.{OneThen}
 use Rattle.rules.proofs.Answers.{Settled}
 use Rattle.rules.proofs.Numerics.{one-then, NumericIs, numeric-settled, one-between}
-use Rattle.tens.specs.Numerics.{numericOf}
+use Rattle.tens.specs.Numerics.{numericOf, oneBefore}
 
 -- the next power
 pub next-power : (k : ℕ) → 10 ^ (k + 1) ≡ 10 ^ k * 10
@@ -25,6 +25,10 @@ next-power k = rw (add-one k, pow-suc 10 k) (omega arith)
 
 pub power-le : (j k : ℕ) → j ≤ k → 10 ^ j ≤ 10 ^ k
 power-le j k l = pow-le-pow-right (lit< tt) l
+
+-- a power of ten and a number below it are the number's digits behind a 1
+pub one-before : (k v : ℕ) → v < 10 ^ k → 10 ^ k + v ≡ oneBefore k v
+one-before k v l = sym (one-then (numeral 10 k v) ∙ rw (length-numeral, value-numeral-lt 10 k v l))
 
 -- of the powers up to the n-th, the k-th is the highest that is not above v, or k is 0
 pub record Highest (n v k : ℕ) : Type 0 where

@@ -1,11 +1,15 @@
--- The digits of a numeric string as the code holds them.
-use mathlib.Core.List.{List}
+-- The digits of a numeric string as the code holds them, and its integer.
+use mathlib.Core.List.{List, _∷_}
 use Prim.Native.Nat.{ℕ}
 use lib.ListN.{length}
-use Rattle.numeral.specs.Numeral.{value}
+use Rattle.numeral.specs.Numeral.{value, numeral}
 use Rattle.rules.specs.Answers.{Answer, refused, taken}
 use Rattle.tens.specs.declared.Digits.{Digits}
 
 abbrev pub numericOf : Answer (List ℕ) → Digits
 numericOf (refused n) = record { value = 0; count = 0 }
 numericOf (taken ds) = record { value = value 10 ds; count = length ds }
+
+-- the k digits of v, and a 1 put before them
+abbrev pub oneBefore : ℕ → ℕ → ℕ
+oneBefore k v = value 10 (1 ∷ numeral 10 k v)

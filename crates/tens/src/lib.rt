@@ -1,10 +1,10 @@
 // Powers of ten, and with them the integer of a numeric string: a 1 is put before its digits, so that leading zeros survive (document 02,
 // C-11).
 ghost use mathlib.Core.Path.{_≡_};
-ghost use Prim.Native.Nat.{_+_, _^_, _≤_, _<_};
+ghost use Prim.Native.Nat.{_^_, _≤_, _<_};
 ghost use Rattle.numeral.specs.Numeral.{shortest};
 ghost use Rattle.rules.specs.BankNumbers.{numericIn};
-ghost use Rattle.tens.specs.Numerics.{numericOf};
+ghost use Rattle.tens.specs.Numerics.{numericOf, oneBefore};
 
 // Ten to the power of a number of digits.
 pub fn power(digits: usize) -> u64
@@ -42,7 +42,7 @@ pub struct Digits {
 // The integer of the digits and the 1 before them.
 pub fn with_one(value: u64, count: usize) -> u64
     requires { ⌜ (count ≤ 17) × (value < 10 ^ count) ⌝ }
-    ensures { λ r. ⌜ r ≡ 10 ^ count + value ⌝ }
+    ensures { λ r. ⌜ r ≡ oneBefore count value ⌝ }
 {
     power(count) + value
 }

@@ -5,11 +5,14 @@ use native.Mathlib.Omega.{arith}
 use borrow.Author.Needs.{needs}
 use lib.ListN.{drop}
 use Rattle.rules.specs.declared.Last.{Last}
+use Rattle.rules.specs.declared.Body.the-variants.{Then}
+use Rattle.rules.specs.declared.Parts.the-variants.{F}
 use Rattle.rules.specs.declared.Last.the-variants.{Integer, String, Numeric}
 use Rattle.rules.specs.Schemes.{Form, integer, string, numeric, counted, cell, rowAt, rowOf, assetBits}
 use Rattle.rules.specs.Grammar.{last, end}
 use Rattle.rules.specs.TextNumbers.{partsIn}
 use Rattle.rules.proofs.Rows.{row-picked}
+use Rattle.scheme.specs.Outlines.{Narrow}
 use Rattle.scheme.proofs.Widths.{few-bits}
 use Rattle.parts.specs.Parts.{formOf}
 use Rattle.text.specs.Reading.{referred, withLast, referenceAlone, assetAlone}
@@ -17,24 +20,23 @@ use Rattle.text.proofs.Lasts.{row-behind, row-alone, numeric-alike}
 use Rattle.text.proofs.reading.behind_prefix.Statement.{statement}
 use Rattle.text.proofs.reading.behind_prefix.Tie as tie
 
--- an integer is narrow, and a numeric string has few digits, once the body and its last part are known
+-- the limits of a last part, once it is known
+limits : (form : tie.After-reference-form) {l : Last} → form .before .before .before .body .given .0 .1 .0 ≡ l → Narrow (F (Then (form .before .before .before .body .given .0 .0) l))
+limits form e =
+    let body = form .before .before .before in
+    rw (body .body .given .1, e) at (body .before .before .before .pre .1)
+
 integer-short : tie.Need-with-integer-requires
 integer-short c κs =
     let l = c .before in
     let form = l .before .before in
-    let body = form .before .before .before in
-    let s = body .before .before .before in
-    let narrow = rw (body .body .given .1, l .l .given .1) at (s .pre .1) in
-    (s .pre .0, form .reference-form .ensures .1, omega (arith, narrow))
+    (form .before .before .before .before .before .before .pre .0, form .reference-form .ensures .1, omega (arith, limits form (l .l .given .1)))
 
 numeric-short : tie.Need-with-numeric-requires
 numeric-short c κs =
     let l = c .before in
     let form = l .before .before in
-    let body = form .before .before .before in
-    let s = body .before .before .before in
-    let narrow = rw (body .body .given .1, l .l3 .given .1) at (s .pre .1) in
-    (s .pre .0, form .reference-form .ensures .1, omega (arith, narrow))
+    (form .before .before .before .before .before .before .pre .0, form .reference-form .ensures .1, omega (arith, limits form (l .l3 .given .1)))
 
 -- the reference has the form of the row's digits
 of-row : (form : tie.After-reference-form) (l : Last) (g : Form)
