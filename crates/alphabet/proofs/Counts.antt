@@ -4,20 +4,20 @@ use mathlib.Core.Path.{_≡_, refl, sym, _∙_, ap}
 use mathlib.Core.Logic.{inl, inr}
 use mathlib.Core.Bool.{Bool, true}
 use mathlib.Core.List.{List, [], _∷_, _++_, append-assoc, append-nil}
+use mathlib.Core.Option.{Option, none, some}
 use native.Mathlib.Nat.{add-zero, sub-self}
 use native.Mathlib.Numerals.{add-one}
 use native.Mathlib.Omega.{arith}
 use lib.Dec.{T, lt→ltb, ltb→lt}
 use lib.ListN.{length, take, drop, getD, replicate, length-append, length-replicate, replicate-append-replicate}
 use lib.Seq.{take-suc, take-at, drop-at, length-take-le, getD-take, getD-append-add}
-use Rattle.rules.specs.Answers.{Answer, refused, taken}
 use Rattle.rules.specs.Bytes.{all}
 use Rattle.rules.specs.Characters.{tableA1, character}
 use Rattle.rules.specs.BankNumbers.{stringIn}
 use Rattle.rules.specs.Conditions.{WrongGroups}
 use Rattle.rules.proofs.Tests.{both, and, all-among, all-map}
-use Rattle.rules.proofs.Answers.{Settled}
-use Rattle.rules.proofs.Groups.{nonzero, leading-of, StringIs, string-settled, string-of}
+use Rattle.rules.proofs.Answers.{Decides}
+use Rattle.rules.proofs.Groups.{nonzero, leading-of, StringIs, string-decides, string-of}
 use Rattle.alphabet.specs.Strings.{countOf}
 
 -- Groups that are characters and then zeros are counted; no character is a zero.
@@ -81,11 +81,11 @@ module _ (x : List ℕ) (i n : ℕ) (h : i < length x) (c : Counted x i n) where
       }
 
 refused-count : (gs : List ℕ) → WrongGroups (length gs) (λ i. getD gs i 0) → 0 ≡ countOf (stringIn gs)
-refused-count gs w = go (stringIn gs) (string-settled gs)
+refused-count gs w = go (stringIn gs) (string-decides gs)
   where
-    go : (a : Answer (List ℕ)) → Settled 19 (WrongGroups (length gs) λ i. getD gs i 0) (StringIs gs) a → 0 ≡ countOf a
-    go (refused m) s = refl
-    go (taken cs) s = absurd (s .0 w)
+    go : (o : Option (List ℕ)) → Decides (WrongGroups (length gs) λ i. getD gs i 0) (StringIs gs) o → 0 ≡ countOf o
+    go none s = refl
+    go (some cs) s = absurd (s .0 w)
 
 module _ (x : List ℕ) (i k : ℕ) (h : i < k) (l : k ≤ length x) (e : ¬ (getD x i 0 ≡ 0)) where
   inside : i < length (take k x)
@@ -101,24 +101,24 @@ module _ (x : List ℕ) (i k : ℕ) (h : i < k) (l : k ≤ length x) (e : ¬ (ge
       refused-count (take k x) (inr (inl (n, i, b, inside, same ∙ zero-at, rw (getD-take k x i 0 h) e)))
 
 -- What a caller finds: the characters stand first, and zeros behind them; or the groups are refused.
-pub taken-groups : (gs cs : List ℕ) → stringIn gs ≡ taken cs → (cs ≡ take (length cs) gs) × (drop (length cs) gs ≡ replicate (length gs - length cs) 0)
-taken-groups gs cs e = let s : StringIs gs cs = rw e at (string-settled gs) .1 in go gs (s .0) (s .1)
+pub taken-groups : (gs cs : List ℕ) → stringIn gs ≡ some cs → (cs ≡ take (length cs) gs) × (drop (length cs) gs ≡ replicate (length gs - length cs) 0)
+taken-groups gs cs e = let s : StringIs gs cs = rw e at (string-decides gs) .1 in go gs (s .0) (s .1)
   where
     go : (gs : List ℕ) (z : ℕ) → gs ≡ cs ++ replicate z 0 → (cs ≡ take (length cs) gs) × (drop (length cs) gs ≡ replicate (length gs - length cs) 0)
     go gs z e =
         let k : length gs - length cs ≡ z = omega (arith, ap length e, length-append cs (replicate z 0), length-replicate {A = ℕ} z 0) in
         rw (k, e) (sym (take-at cs (replicate z 0) (length cs) refl), drop-at cs (replicate z 0) (length cs) refl)
 
-pub count-taken : (gs : List ℕ) (n : ℕ) → n ≡ countOf (stringIn gs) → ¬ (n ≡ 0) → stringIn gs ≡ taken (take n gs)
+pub count-taken : (gs : List ℕ) (n : ℕ) → n ≡ countOf (stringIn gs) → ¬ (n ≡ 0) → stringIn gs ≡ some (take n gs)
 count-taken gs n e z = go (stringIn gs) refl e
   where
-    go : (a : Answer (List ℕ)) → stringIn gs ≡ a → n ≡ countOf a → stringIn gs ≡ taken (take n gs)
-    go (refused m) q e = absurd (z e)
-    go (taken cs) q e = q ∙ ap taken (rw e (taken-groups gs cs q .0))
+    go : (o : Option (List ℕ)) → stringIn gs ≡ o → n ≡ countOf o → stringIn gs ≡ some (take n gs)
+    go none q e = absurd (z e)
+    go (some cs) q e = q ∙ ap some (rw e (taken-groups gs cs q .0))
 
-pub count-refused : (gs : List ℕ) (n : ℕ) → n ≡ countOf (stringIn gs) → n ≡ 0 → stringIn gs ≡ refused 19
-count-refused gs n e z = go (stringIn gs) (string-settled gs) e
+pub count-refused : (gs : List ℕ) (n : ℕ) → n ≡ countOf (stringIn gs) → n ≡ 0 → stringIn gs ≡ none
+count-refused gs n e z = go (stringIn gs) (string-decides gs) e
   where
-    go : (a : Answer (List ℕ)) → Settled 19 (WrongGroups (length gs) λ i. getD gs i 0) (StringIs gs) a → n ≡ countOf a → a ≡ refused 19
-    go (refused m) s e = ap refused (s .0)
-    go (taken cs) s e = absurd (omega (arith, ltb→lt 0 (length cs) (s .1 .2)))
+    go : (o : Option (List ℕ)) → Decides (WrongGroups (length gs) λ i. getD gs i 0) (StringIs gs) o → n ≡ countOf o → o ≡ none
+    go none s e = refl
+    go (some cs) s e = absurd (omega (arith, ltb→lt 0 (length cs) (s .1 .2)))

@@ -5,7 +5,6 @@ use mathlib.Core.Bool.{cond}
 use mathlib.Core.List.{List, _++_}
 use mathlib.Core.Option.{Option, none, some}
 use lib.ListN.{length, take, getD, replicate}
-use Rattle.rules.specs.Answers.{Answer, refused, taken}
 use Rattle.rules.specs.Bytes.{among}
 use Rattle.rules.specs.Characters.{escaped, character}
 use Rattle.alphabet.specs.declared.Spelled.{Spelled}
@@ -23,7 +22,7 @@ abbrev pub spelledOf : Option (List ℕ) → Spelled
 spelledOf none = record { count = 0; characters = replicate 20 0 }
 spelledOf (some cs) = record { count = length cs; characters = take 20 (cs ++ replicate 20 0) }
 
--- the answer of `count`: the number of characters, or 0 where the groups are refused; groups that are not refused hold one at least
-abbrev pub countOf : Answer (List ℕ) → ℕ
-countOf (refused n) = 0
-countOf (taken cs) = length cs
+-- the answer of `count`: the number of characters, or 0 where the groups are no string; a string has one at least
+abbrev pub countOf : Option (List ℕ) → ℕ
+countOf none = 0
+countOf (some cs) = length cs

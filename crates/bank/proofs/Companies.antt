@@ -1,6 +1,6 @@
 -- The reference, in the code's own terms: k is what is read up to the company prefix, `at` the code bit behind it, and h the shape of what
 -- stands there.
-use Prim.Native.Nat.{ℕ, _^_, _≤_, _<_}
+use Prim.Native.Nat.{ℕ, _+_, _^_, _≤_, _<_}
 use mathlib.Core.Path.{_≡_, ap, _∙_}
 use mathlib.Core.List.{List}
 use native.Mathlib.Omega.{arith}
@@ -17,6 +17,7 @@ use Rattle.bank.specs.declared.reading.Company.{Company}
 use Rattle.bank.specs.declared.reading.Shape.{Shape}
 use Rattle.bank.specs.Reading.{Begun, Referred, prefixEnd, shapeOf}
 use Rattle.bank.proofs.Sizes.{Roomy, roomy}
+use Rattle.bank.proofs.Numbers.{referenceAddress}
 use Rattle.bank.proofs.Answers.{lies, large-reference}
 
 module _ (b : List ℕ) (s : Scheme) (body : Body) (k : Company) (g : Begun b s body k) (at : ℕ) (here : at ≡ prefixEnd b) where
@@ -41,8 +42,10 @@ module _ (b : List ℕ) (s : Scheme) (body : Body) (k : Company) (g : Begun b s 
       read : y ≡ codeField b (prefixEnd b) (shapeOf body (rowIn b) .cell .bits)
       read = ey ∙ rw (here, shape-is)
 
-      pub large : x ≤ y → tagOfBank b ≡ refused 18
-      large l = large-reference b s body (g .coded) (g .listed) (g .small) (rw (← most, ← read) l)
+      pub large : x ≤ y → tagOfBank b ≡ refused 18 (0x20 + at)
+      large l =
+          let place : referenceAddress b ≡ 0x20 + at = omega (arith, here) in
+          large-reference b s body (g .coded) (g .listed) (g .small) (rw (← most, ← read) l) ∙ ap (refused 18) place
 
       pub referred : y < x → Referred b s body k h y
       referred l = record { begun = g; shape = shape-is; reference = ey ∙ ap (λ c. codeField b c (h .cell .bits)) here; small = rw (← ex) l }

@@ -9,7 +9,9 @@ use lib.ListN.{length}
 use Rattle.rules.specs.Answers.{refused, taken}
 use Rattle.rules.specs.declared.Scheme.{Scheme}
 use Rattle.rules.specs.Schemes.{schemes, about, words, zeroBits}
-use Rattle.rules.specs.BankNumbers.{headed, controlIn, tagOfBank}
+use Rattle.rules.specs.Coding.{binary}
+use Rattle.rules.specs.Conditions.{zerosFrom}
+use Rattle.rules.specs.BankNumbers.{zerosBefore, headed, controlIn, tagOfBank}
 use Rattle.rules.proofs.Codes as Codes
 use Rattle.rules.proofs.BankReads.{clean-of}
 use Rattle.scheme.specs.declared.outlines.Outline.{Outline}
@@ -17,7 +19,7 @@ use Rattle.scheme.specs.declared.outlines.Headed.{Headed}
 use Rattle.scheme.specs.declared.outlines.Headed.the-variants.{Is, Unlisted}
 use Rattle.scheme.specs.Outlines.{outlineOf, named, headedBy}
 use Rattle.fields.specs.BitReaders.{LiesInCode, codeField}
-use Rattle.bank.specs.Reading.{endOf, Coded}
+use Rattle.bank.specs.Reading.{Coded}
 use Rattle.bank.proofs.Sizes.{sizes}
 use Rattle.bank.proofs.Stages.{unlisted, other-words, one-after}
 
@@ -46,7 +48,7 @@ module _ (b : List ℕ) (W : ℕ) (c : controlIn b ≡ taken W) (h : ℕ) (eh : 
   unfolding headedBy
   names = eo ∙ ap headedBy eh
 
-  pub no-scheme : o ≡ Unlisted → tagOfBank b ≡ refused 13
+  pub no-scheme : o ≡ Unlisted → tagOfBank b ≡ refused 13 0x20
   no-scheme e = unlisted b W c (named-none (headed (codeField b 0 8) schemes) (sym names ∙ e))
 
   module _ (s : Scheme) (es : o ≡ Is s) (l : Outline) (el : l ≡ outlineOf s) where
@@ -56,7 +58,7 @@ module _ (b : List ℕ) (W : ℕ) (c : controlIn b ≡ taken W) (h : ℕ) (eh : 
     words-are : l .words ≡ words s
     words-are = ap (λ l. l .words) el
 
-    pub wrong-words : ¬ (W ≡ l .words) → tagOfBank b ≡ refused 14
+    pub wrong-words : ¬ (W ≡ l .words) → tagOfBank b ≡ refused 14 0x10
     wrong-words h = other-words b W c s found (λ e. h (e ∙ sym words-are))
 
     module _ (ew : W ≡ l .words) (z : ℕ) (ez : z ≡ zeroBits (l .parts)) where
@@ -66,7 +68,7 @@ module _ (b : List ℕ) (W : ℕ) (c : controlIn b ≡ taken W) (h : ℕ) (eh : 
       zeros-are : z ≡ zeroBits (about s .parts)
       zeros-are = ez ∙ ap (λ l. zeroBits (l .parts)) el
 
-      end-is : l .bits - z ≡ endOf s
+      end-is : l .bits - z ≡ zerosFrom s
       end-is = rw (zeros-are, el)
 
       pub ended : Ended (l .bits) z W (length b)
@@ -79,11 +81,12 @@ module _ (b : List ℕ) (W : ℕ) (c : controlIn b ≡ taken W) (h : ℕ) (eh : 
       }
 
       module _ (x : ℕ) (ex : x ≡ codeField b (l .bits - z) (16 * W - (l .bits - z))) where
-        rest-is : x ≡ codeField b (endOf s) (16 * words s - endOf s)
+        rest-is : x ≡ codeField b (zerosFrom s) (16 * words s - zerosFrom s)
         rest-is = ex ∙ rw (end-is, words-same)
 
-        pub not-zero : ¬ (x ≡ 0) → tagOfBank b ≡ refused 15
-        not-zero h = one-after b W c s found words-same (rw (← rest-is) h)
+        -- the first one bit of those behind the parts
+        pub not-zero : ¬ (x ≡ 0) → tagOfBank b ≡ refused 15 (0x20 + (l .bits - z + zerosBefore (binary (16 * W - (l .bits - z)) x)))
+        not-zero h = one-after b W c s found words-same (rw (← rest-is) h) ∙ rw (end-is, words-same, rest-is)
 
         pub coded : x ≡ 0 → Coded b s (l .parts)
         coded e = record { clean = c ∙ ap taken words-same; header = found; zeros = sym rest-is ∙ e; parts = sym (ap (λ l. l .parts) el) }

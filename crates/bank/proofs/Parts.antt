@@ -10,7 +10,7 @@ use borrow.Author.Tests.{lt-ltb, le-ltb}
 use Rattle.numeral.specs.Numeral.{value, numeral, shortest, spread, gather}
 use Rattle.numeral.proofs.Values.{value-nil, value-numeral-lt}
 use Rattle.numeral.proofs.Shortest.{value-shortest}
-use Rattle.rules.specs.Answers.{Answer, refused, taken, _>>=_, _>>_, demand}
+use Rattle.rules.specs.Answers.{Answer, refused, taken, _>>=_, _>>_, demand, given}
 use Rattle.rules.specs.declared.Table.{Table}
 use Rattle.rules.specs.declared.Last.{Last}
 use Rattle.rules.specs.declared.Last.the-variants.{Integer, String, Numeric}
@@ -30,7 +30,7 @@ use Rattle.scheme.specs.Rows.{referenceOf}
 use Rattle.fields.specs.BitReaders.{codeField}
 use Rattle.bank.specs.Reading.{prefixEnd, shapeOf, groupsAt}
 use Rattle.bank.proofs.Sizes.{Roomy}
-use Rattle.bank.proofs.Numbers.{decimal-at, at-most-at, small-prefix}
+use Rattle.bank.proofs.Numbers.{referenceAddress, decimal-at, at-most-at, small-prefix}
 
 -- the groups of a string that begins at code bit c
 groups-seen : (b : List ℕ) (c n : ℕ) → n ≡ 7 * (n / 7) → c + n ≤ 16 * wordCount b → gather 2 7 (n / 7) (take n (drop c (codeIn b))) ≡ groupsAt b c (n / 7)
@@ -40,10 +40,10 @@ pub no-bits : (b : List ℕ) (c : ℕ) → codeField b c 0 ≡ 0
 no-bits b c = value-nil 2
 
 -- a string behind three parts
-at-last : (x y z : List ℕ) (n : ℕ) (l : List ℕ) (a : Answer (List ℕ))
-    → ((((a >>= λ cs. taken (field cs n l)) >>= λ c. taken (c .symbols ∷ [])) >>= λ ps. taken (z ∷ ps)) >>= λ ps. taken (x ∷ y ∷ ps)) ≡ (a >>= λ cs. taken (x ∷ y ∷ z ∷ cs ∷ []))
-at-last x y z n l (refused m) = refl
-at-last x y z n l (taken cs) = refl
+at-last : (x y z : List ℕ) (p n : ℕ) (l : List ℕ) (a : Answer (List ℕ))
+    → ((((a >>= λ cs. taken (field cs p n l)) >>= λ c. taken (c .symbols ∷ [])) >>= λ ps. taken (z ∷ ps)) >>= λ ps. taken (x ∷ y ∷ ps)) ≡ (a >>= λ cs. taken (x ∷ y ∷ z ∷ cs ∷ []))
+at-last x y z p n l (refused m q) = refl
+at-last x y z p n l (taken cs) = refl
 
 -- The code bit of the reference.
 abbrev pub start : List ℕ → ℕ
@@ -55,6 +55,10 @@ reference b t = codeField b (start b) (cell t (rowIn b) .0)
 
 abbrev pub behind : List ℕ → Table → ℕ
 behind b t = start b + cell t (rowIn b) .0
+
+-- The address of what stands behind the reference.
+abbrev pub lastAddress : List ℕ → Body → ℕ
+lastAddress b body = referenceAddress b + shapeOf body (rowIn b) .cell .bits
 
 -- All parts, where the reference is the digits ds, and a string the characters or digits cs.
 abbrev shown : List ℕ → Body → List ℕ → List ℕ → List (List ℕ)
@@ -73,8 +77,8 @@ answered b body ds a = a >>= λ cs. taken (partsOf b body ds cs)
 
 abbrev pub stringOf : List ℕ → Body → Answer (List ℕ)
 stringOf b (Then t (Integer n)) = taken []
-stringOf b (Then t (String n)) = stringIn (groupsAt b (behind b t) (n / 7))
-stringOf b (Then t (Numeric n k)) = numericIn k (shortest 10 (codeField b (behind b t) n))
+stringOf b (Then t (String n)) = given (stringIn (groupsAt b (behind b t) (n / 7))) 19 (lastAddress b (Then t (String n)))
+stringOf b (Then t (Numeric n k)) = given (numericIn k (shortest 10 (codeField b (behind b t) n))) 19 (lastAddress b (Then t (Numeric n k)))
 stringOf b (Zeros t n) = taken []
 stringOf b E = taken []
 
@@ -94,7 +98,7 @@ module _ (b : List ℕ) (long : bankSize (wordCount b) ≤ length b) (row : part
     abbrev ReadAs : List ℕ → Form → Type 0
     ReadAs ds f =
         (reference b t < 10 ^ cell t (rowIn b) .1 → value 10 ds ≡ reference b t)
-        × (fieldIn f (drop (start b) (codeIn b)) ≡ (demand (ltb (reference b t) (10 ^ cell t (rowIn b) .1)) 18 >> taken (record { symbols = ds; rest = drop (behind b t) (codeIn b) })))
+        × (fieldIn (referenceAddress b) f (drop (start b) (codeIn b)) ≡ (demand (ltb (reference b t) (10 ^ cell t (rowIn b) .1)) 18 (referenceAddress b) >> taken (record { symbols = ds; next = referenceAddress b + cell t (rowIn b) .0; rest = drop (behind b t) (codeIn b) })))
 
     cell-at : (ds : List ℕ) × ReadAs ds (rowDigits t (rowOf (prefixDigits (rowIn b))))
     cell-at =
@@ -102,17 +106,17 @@ module _ (b : List ℕ) (long : bankSize (wordCount b) ≤ length b) (row : part
         let w = cell t (rowIn b) .0 in
         let n = cell t (rowIn b) .1 in
         rw picked
-        (by-count (λ f. (ds : List ℕ) × ReadAs ds f) t w n (numeral 10 n v, (value-numeral-lt 10 n v, decimal-at b long (start b) w inside 18 n)) (shortest 10 v, ((λ h. value-shortest 10 (lit< tt) v), at-most-at b long (start b) w inside n)))
+        (by-count (λ f. (ds : List ℕ) × ReadAs ds f) t w n (numeral 10 n v, (value-numeral-lt 10 n v, decimal-at b long (start b) w inside 18 (referenceAddress b) n)) (shortest 10 v, ((λ h. value-shortest 10 (lit< tt) v), at-most-at b long (start b) w inside (referenceAddress b) n)))
 
-    cell-large : 10 ^ cell t (rowIn b) .1 ≤ reference b t → fieldIn (rowDigits t (rowOf (prefixDigits (rowIn b)))) (drop (start b) (codeIn b)) ≡ refused 18
+    cell-large : 10 ^ cell t (rowIn b) .1 ≤ reference b t → fieldIn (referenceAddress b) (rowDigits t (rowOf (prefixDigits (rowIn b)))) (drop (start b) (codeIn b)) ≡ refused 18 (referenceAddress b)
     cell-large h = cell-at .1 .1 ∙ rw (le-ltb (reference b t) (10 ^ cell t (rowIn b) .1) h)
 
     cell-small : reference b t < 10 ^ cell t (rowIn b) .1
-        → (ds : List ℕ) × (value 10 ds ≡ reference b t) × (fieldIn (rowDigits t (rowOf (prefixDigits (rowIn b)))) (drop (start b) (codeIn b)) ≡ taken (record { symbols = ds; rest = drop (behind b t) (codeIn b) }))
+        → (ds : List ℕ) × (value 10 ds ≡ reference b t) × (fieldIn (referenceAddress b) (rowDigits t (rowOf (prefixDigits (rowIn b)))) (drop (start b) (codeIn b)) ≡ taken (record { symbols = ds; next = referenceAddress b + cell t (rowIn b) .0; rest = drop (behind b t) (codeIn b) }))
     cell-small h = (cell-at .0, cell-at .1 .0 h, cell-at .1 .1 ∙ rw (lt-ltb (reference b t) (10 ^ cell t (rowIn b) .1) h))
 
   pub large-reference : (body : Body) → Roomy (wordCount b) (rowIn b) (shapeOf body (rowIn b))
-      → 10 ^ shapeOf body (rowIn b) .cell .digits ≤ codeField b (start b) (shapeOf body (rowIn b) .cell .bits) → fieldsIn (laid (F body)) (drop 8 (codeIn b)) ≡ refused 18
+      → 10 ^ shapeOf body (rowIn b) .cell .digits ≤ codeField b (start b) (shapeOf body (rowIn b) .cell .bits) → fieldsIn 0x28 (laid (F body)) (drop 8 (codeIn b)) ≡ refused 18 (referenceAddress b)
   large-reference (Then t l) r h =
       let inside : behind b t ≤ 16 * wordCount b = omega (arith, r .inside, ap (λ k. k .bits) (reference-cell t l (rowIn b))) in
       small-prefix b long (Then t l) (omega arith) (omega arith) small ∙ rw (cell-large t inside (rw (reference-cell t l (rowIn b)) at h))
@@ -121,7 +125,7 @@ module _ (b : List ℕ) (long : bankSize (wordCount b) ≤ length b) (row : part
 
   pub small-reference : (body : Body) → Roomy (wordCount b) (rowIn b) (shapeOf body (rowIn b)) → Narrow (F body)
       → codeField b (start b) (shapeOf body (rowIn b) .cell .bits) < 10 ^ shapeOf body (rowIn b) .cell .digits
-      → (ds : List ℕ) × (value 10 ds ≡ codeField b (start b) (shapeOf body (rowIn b) .cell .bits)) × (fieldsIn (laid (F body)) (drop 8 (codeIn b)) ≡ answered b body ds (stringOf b body))
+      → (ds : List ℕ) × (value 10 ds ≡ codeField b (start b) (shapeOf body (rowIn b) .cell .bits)) × (fieldsIn 0x28 (laid (F body)) (drop 8 (codeIn b)) ≡ answered b body ds (stringOf b body))
   small-reference (Then t (Integer n)) r w h =
       let (ds, v, e) = cell-small t (omega arith) h in
       (ds, v, small-prefix b long (Then t (Integer n)) (omega arith) (omega arith) small ∙ rw (e, ← code-seen b long (behind b t) n (omega arith)))
@@ -130,14 +134,14 @@ module _ (b : List ℕ) (long : bankSize (wordCount b) ≤ length b) (row : part
         ds,
         v,
         small-prefix b long (Then t (String n)) (omega arith) (omega arith) small
-            ∙ rw (e, groups-seen b (behind b t) n (w .0) (omega arith)) (at-last _ _ _ n (drop (behind b t) (codeIn b)) (stringIn (groupsAt b (behind b t) (n / 7)))),
+            ∙ rw (e, groups-seen b (behind b t) n (w .0) (omega arith)) (at-last _ _ _ _ n (drop (behind b t) (codeIn b)) (stringOf b (Then t (String n)))),
       )
   small-reference (Then t (Numeric n k)) r w h =
       let (ds, v, e) = cell-small t (omega arith) h in (
         ds,
         v,
         small-prefix b long (Then t (Numeric n k)) (omega arith) (omega arith) small
-            ∙ rw (e, ← code-seen b long (behind b t) n (omega arith)) (at-last _ _ _ n (drop (behind b t) (codeIn b)) (numericIn k (shortest 10 (codeField b (behind b t) n)))),
+            ∙ rw (e, ← code-seen b long (behind b t) n (omega arith)) (at-last _ _ _ _ n (drop (behind b t) (codeIn b)) (stringOf b (Then t (Numeric n k)))),
       )
   small-reference (Zeros t n) r w h =
       let (ds, v, e) = cell-small t (omega arith) h in

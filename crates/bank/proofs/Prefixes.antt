@@ -21,7 +21,7 @@ use Rattle.bank.proofs.Sizes.{roomy}
 use Rattle.bank.proofs.Answers as Answers
 
 module _ (b : List ℕ) (s : Scheme) (body : Body) (c : Coded b s (F body)) (P : ℕ) (eP : P ≡ codeField b 11 3) where
-  pub no-row : P ≡ 7 → tagOfBank b ≡ refused 16
+  pub no-row : P ≡ 7 → tagOfBank b ≡ refused 16 0x2B
   no-row e = Answers.no-row b s body c (sym eP ∙ e)
 
   module _ (row : ¬ (P ≡ 7)) where
@@ -51,7 +51,7 @@ module _ (b : List ℕ) (s : Scheme) (body : Body) (c : Coded b s (F body)) (P :
         most : y ≡ 10 ^ prefixDigits (rowIn b)
         most = ey ∙ ap (λ k. 10 ^ k .digits) cell-is
 
-        pub large-prefix : y ≤ x → tagOfBank b ≡ refused 17
+        pub large-prefix : y ≤ x → tagOfBank b ≡ refused 17 0x2E
         large-prefix h = Answers.large-prefix b s body c (rw (← eP) listed) (rw (← most, ← value-is) h)
 
         pub begun : x < y → (z : ℕ) → z ≡ codeField b 8 3 → Begun b s body (record { filter = z; row = P; digits = k .digits; prefix = x })

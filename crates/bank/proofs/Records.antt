@@ -3,6 +3,7 @@ use Prim.Native.Nat.{ℕ, _+_, _-_, _/_, _^_, _≤_, _<_}
 use mathlib.Core.Path.{_≡_, refl, sym, ap, _∙_}
 use mathlib.Core.Logic.{_⊎_, inl, inr}
 use mathlib.Core.List.{List, [], _++_, append-assoc}
+use mathlib.Core.Option.{Option, none, some}
 use native.Mathlib.Nat.{add-zero}
 use native.Mathlib.Omega.{arith}
 use lib.Dec.{lit<}
@@ -12,7 +13,7 @@ use Rattle.numeral.specs.Numeral.{value, shortest, gather}
 use Rattle.numeral.proofs.Values.{numeral-nil, length-numeral, value-numeral-lt}
 use Rattle.numeral.proofs.Shortest.{value-shortest}
 use Rattle.numeral.proofs.Spreads.{length-gather}
-use Rattle.rules.specs.Answers.{Answer, refused, taken, _>>=_}
+use Rattle.rules.specs.Answers.{Answer, refused, taken, _>>=_, given}
 use Rattle.rules.specs.declared.Scheme.{Scheme}
 use Rattle.rules.specs.declared.Last.the-variants.{Integer, String, Numeric}
 use Rattle.rules.specs.declared.Body.{Body}
@@ -24,7 +25,7 @@ use Rattle.rules.specs.Conditions.{rowIn}
 use Rattle.rules.specs.BankNumbers.{stringIn, numericIn}
 use Rattle.alphabet.specs.Strings.{countOf}
 use Rattle.alphabet.proofs.Kept.{first-characters}
-use Rattle.rules.proofs.Groups.{StringIs, string-settled}
+use Rattle.rules.proofs.Groups.{StringIs, string-decides}
 use Rattle.alphabet.proofs.Counts.{count-taken, count-refused}
 use Rattle.scheme.specs.declared.record.Record.{Record}
 use Rattle.scheme.specs.declared.record.Reading.{Reading}
@@ -35,7 +36,7 @@ use Rattle.bank.specs.declared.reading.Shape.{Shape}
 use Rattle.bank.specs.Reading.{shapeOf, groupsAt}
 use Rattle.tens.specs.Numerics.{numericOf}
 use Rattle.tens.proofs.Numerals.{none-read}
-use Rattle.bank.proofs.Parts.{start, partsOf, answered, stringOf, no-bits}
+use Rattle.bank.proofs.Parts.{start, partsOf, answered, lastAddress, stringOf, no-bits}
 
 -- the record of parts p
 pub record-by : (s : Scheme) (p : Parts) (ps : List (List ℕ)) → about s .parts ≡ p
@@ -44,8 +45,8 @@ unfolding recordOf
 record-by s p ps e = rw e
 
 -- the groups of a string that is taken are its characters and zeros
-padded-groups : (gs cs : List ℕ) (k : ℕ) → length gs ≡ k → k ≤ 20 → stringIn gs ≡ taken cs → padded cs ≡ gs ++ replicate (20 - k) 0
-padded-groups gs cs k n h e = let is : StringIs gs cs = rw e at (string-settled gs) .1 in go (is .0) (is .1)
+padded-groups : (gs cs : List ℕ) (k : ℕ) → length gs ≡ k → k ≤ 20 → stringIn gs ≡ some cs → padded cs ≡ gs ++ replicate (20 - k) 0
+padded-groups gs cs k n h e = let is : StringIs gs cs = rw e at (string-decides gs) .1 in go (is .0) (is .1)
   where
     go : (z : ℕ) → gs ≡ cs ++ replicate z 0 → padded cs ≡ gs ++ replicate (20 - k) 0
     go z q =
@@ -61,21 +62,21 @@ no-groups b c = numeral-nil _ _
 abbrev pub groupsIn : List ℕ → Shape → List ℕ
 groupsIn b h = groupsAt b (start b + h .cell .bits) (h .groups)
 
-pub string-refused : (b : List ℕ) (body : Body) → ¬ (shapeOf body (rowIn b) .groups ≡ 0) → 0 ≡ countOf (stringIn (groupsIn b (shapeOf body (rowIn b)))) → stringOf b body ≡ refused 19
+pub string-refused : (b : List ℕ) (body : Body) → ¬ (shapeOf body (rowIn b) .groups ≡ 0) → 0 ≡ countOf (stringIn (groupsIn b (shapeOf body (rowIn b)))) → stringOf b body ≡ refused 19 (lastAddress b body)
 string-refused b (Then t (Integer n)) h e = absurd (h refl)
-string-refused b (Then t (String n)) h e = count-refused (groupsIn b (shapeOf (Then t (String n)) (rowIn b))) 0 e refl
+string-refused b (Then t (String n)) h e = rw (count-refused (groupsIn b (shapeOf (Then t (String n)) (rowIn b))) 0 e refl)
 string-refused b (Then t (Numeric n k)) h e = absurd (h refl)
 string-refused b (Zeros t n) h e = absurd (h refl)
 string-refused b E h e = absurd (h refl)
 
 -- the numeric string behind the reference
-abbrev pub numericAt : List ℕ → Shape → Answer (List ℕ)
+abbrev pub numericAt : List ℕ → Shape → Option (List ℕ)
 numericAt b h = numericIn (h .most) (shortest 10 (codeField b (start b + h .cell .bits) (h .serial)))
 
-pub numeric-refused : (b : List ℕ) (body : Body) → ¬ (shapeOf body (rowIn b) .most ≡ 0) → numericOf (numericAt b (shapeOf body (rowIn b))) .count ≡ 0 → stringOf b body ≡ refused 19
+pub numeric-refused : (b : List ℕ) (body : Body) → ¬ (shapeOf body (rowIn b) .most ≡ 0) → numericOf (numericAt b (shapeOf body (rowIn b))) .count ≡ 0 → stringOf b body ≡ refused 19 (lastAddress b body)
 numeric-refused b (Then t (Integer n)) h e = absurd (h refl)
 numeric-refused b (Then t (String n)) h e = absurd (h refl)
-numeric-refused b (Then t (Numeric n k)) h e = none-read k (codeField b (start b + cell t (rowIn b) .0) n) e
+numeric-refused b (Then t (Numeric n k)) h e = rw (none-read k (codeField b (start b + cell t (rowIn b) .0) n) e)
 numeric-refused b (Zeros t n) h e = absurd (h refl)
 numeric-refused b E h e = absurd (h refl)
 
@@ -107,11 +108,11 @@ module _ (b : List ℕ) (s : Scheme) (small : codeField b 14 (prefixBits (rowIn 
   pub record-made : (body : Body) → about s .parts ≡ F body → Narrow (F body) → shapeOf body (rowIn b) .most ≡ 0 → shapeOf body (rowIn b) .groups ≤ 20
       → (ds : List ℕ) → value 10 ds ≡ codeField b (start b) (shapeOf body (rowIn b) .cell .bits)
       → (n : ℕ) → n ≡ countOf (stringIn (groupsIn b (shapeOf body (rowIn b)))) → (¬ (n ≡ 0)) ⊎ (shapeOf body (rowIn b) .groups ≡ 0)
-      → let h = shapeOf body (rowIn b) in readWith body ds (stringOf b body) ≡ record { number = 0; tag = made (codeField b (start b) (h .cell .bits)) (codeField b (start b + h .cell .bits) (h .serial)) (groupsIn b h ++ replicate (20 - h .groups) 0) n }
+      → let h = shapeOf body (rowIn b) in readWith body ds (stringOf b body) ≡ record { number = 0; place = 0; tag = made (codeField b (start b) (h .cell .bits)) (codeField b (start b + h .cell .bits) (h .serial)) (groupsIn b h ++ replicate (20 - h .groups) 0) n }
   record-made (Then t (Integer n)) e w z k ds v m q o = rw (front (Then t (Integer n)) ds [] e, v, value-shortest 10 (lit< tt), q, no-groups)
   record-made (Then t (String n)) e w z k ds v m q (inl o) =
       let g = groupsAt b (start b + cell t (rowIn b) .0) (n / 7) in
-      let read : stringIn g ≡ taken (take m g) = count-taken g m q o in
+      let read : stringIn g ≡ some (take m g) = count-taken g m q o in
       let count : m ≡ length (take m g) = rw read at q in
       rw (read, front (Then t (String n)) ds (take m g) e, v, no-bits, padded-groups g (take m g) (n / 7) (length-gather 2 7 (n / 7) _) k read, ← count)
   record-made (Then t (String n)) e w z k ds v m q (inr o) = absurd (omega arith)
@@ -123,14 +124,14 @@ module _ (b : List ℕ) (s : Scheme) (small : codeField b 14 (prefixBits (rowIn 
   pub numeric-made : (body : Body) → about s .parts ≡ F body → ¬ (shapeOf body (rowIn b) .most ≡ 0)
       → (ds : List ℕ) → value 10 ds ≡ codeField b (start b) (shapeOf body (rowIn b) .cell .bits)
       → ¬ (numericOf (numericAt b (shapeOf body (rowIn b))) .count ≡ 0)
-      → let h = shapeOf body (rowIn b) in let d = numericOf (numericAt b h) in readWith body ds (stringOf b body) ≡ record { number = 0; tag = made (codeField b (start b) (h .cell .bits)) (d .value) (replicate 20 0) (d .count) }
+      → let h = shapeOf body (rowIn b) in let d = numericOf (numericAt b h) in readWith body ds (stringOf b body) ≡ record { number = 0; place = 0; tag = made (codeField b (start b) (h .cell .bits)) (d .value) (replicate 20 0) (d .count) }
   numeric-made (Then t (Integer n)) e z ds v o = absurd (z refl)
   numeric-made (Then t (String n)) e z ds v o = absurd (z refl)
   numeric-made (Then t (Numeric n k)) e z ds v o = go (numericAt b (shapeOf (Then t (Numeric n k)) (rowIn b))) o
     where
-      go : (a : Answer (List ℕ)) → ¬ (numericOf a .count ≡ 0)
-          → readWith (Then t (Numeric n k)) ds a ≡ record { number = 0; tag = made (codeField b (start b) (cell t (rowIn b) .0)) (numericOf a .value) (replicate 20 0) (numericOf a .count) }
-      go (refused m) o = absurd (o refl)
-      go (taken cs) o = rw (front (Then t (Numeric n k)) ds cs e, v)
+      go : (a : Option (List ℕ)) → ¬ (numericOf a .count ≡ 0)
+          → readWith (Then t (Numeric n k)) ds (given a 19 (lastAddress b (Then t (Numeric n k)))) ≡ record { number = 0; place = 0; tag = made (codeField b (start b) (cell t (rowIn b) .0)) (numericOf a .value) (replicate 20 0) (numericOf a .count) }
+      go none o = absurd (o refl)
+      go (some cs) o = rw (front (Then t (Numeric n k)) ds cs e, v)
   numeric-made (Zeros t n) e z ds v o = absurd (z refl)
   numeric-made E e z ds v o = absurd (z refl)

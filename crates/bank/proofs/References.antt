@@ -25,6 +25,7 @@ use Rattle.bank.specs.declared.reading.Shape.{Shape}
 use Rattle.bank.specs.Reading.{Referred, prefixEnd, referenceEnd, shapeOf, groupsAt, GroupsLie}
 use Rattle.bank.proofs.Sizes.{Roomy, roomy}
 use Rattle.bank.proofs.Groups.{length-groups}
+use Rattle.bank.proofs.Parts.{lastAddress}
 use Rattle.bank.proofs.Answers.{few-words, bytes, lies, wrong-string, right-string, wrong-numeric, right-numeric}
 
 module _ (b : List ℕ) (s : Scheme) (body : Body) (k : Company) (h : Shape) (v : ℕ) (r : Referred b s body k h v) where
@@ -35,6 +36,10 @@ module _ (b : List ℕ) (s : Scheme) (body : Body) (k : Company) (h : Shape) (v 
   below = rw (← r .shape, ← r .reference) (r .small)
 
   module _ (at : ℕ) (here : at ≡ referenceEnd b h) where
+    -- its address
+    place : lastAddress b body ≡ 0x20 + at
+    place = rw (← r .shape) (omega (arith, here))
+
     pub serial-lies : LiesInCode at (h .serial) (length b)
     serial-lies = lies b s (F body) (r .begun .coded) at (h .serial) (room .serial) (omega (arith, here, room))
 
@@ -54,11 +59,11 @@ module _ (b : List ℕ) (s : Scheme) (body : Body) (k : Company) (h : Shape) (v 
       count =
           en ∙ rw (eg, take-at (groupsAt b at (h .groups)) (replicate (20 - h .groups) 0) (h .groups) (length-groups b at (h .groups)), here, r .shape)
 
-      pub wrong : n ≡ 0 → ¬ (h .groups ≡ 0) → tagOfBank b ≡ refused 19
-      wrong z o = let g = r .begun in wrong-string b s body (g .coded) (g .listed) (g .small) below (rw (← r .shape) o) (sym z ∙ count)
+      pub wrong : n ≡ 0 → ¬ (h .groups ≡ 0) → tagOfBank b ≡ refused 19 (0x20 + at)
+      wrong z o = let g = r .begun in wrong-string b s body (g .coded) (g .listed) (g .small) below (rw (← r .shape) o) (sym z ∙ count) ∙ ap (refused 19) place
 
       pub right : h .most ≡ 0 → (z : ℕ) → z ≡ codeField b at (h .serial) → (¬ (n ≡ 0)) ⊎ (h .groups ≡ 0)
-          → record { number = 0; tag = record { scheme = s; filter = k .filter; prefix = k .prefix; digits = k .digits; reference = v; serial = z; characters = gs; count = n } } ≡ readingOf (tagOfBank b)
+          → record { number = 0; place = 0; tag = record { scheme = s; filter = k .filter; prefix = k .prefix; digits = k .digits; reference = v; serial = z; characters = gs; count = n } } ≡ readingOf (tagOfBank b)
       right m z ez o =
           let g = r .begun in
           rw (ez, r .reference, eg, here, r .shape, g .company) (sym (right-string b s body (g .coded) (g .listed) (g .small) below (rw (← r .shape) m) n count (rw (← r .shape) o)))
@@ -68,11 +73,11 @@ module _ (b : List ℕ) (s : Scheme) (body : Body) (k : Company) (h : Shape) (v 
       numeric-is : d ≡ numericOf (numericIn (shapeOf body (rowIn b) .most) (shortest 10 (codeField b (prefixEnd b + shapeOf body (rowIn b) .cell .bits) (shapeOf body (rowIn b) .serial))))
       numeric-is = ed ∙ rw (here, r .shape)
 
-      pub no-digits : d .count ≡ 0 → tagOfBank b ≡ refused 19
-      no-digits z = let g = r .begun in wrong-numeric b s body (g .coded) (g .listed) (g .small) below (rw (← r .shape) some) (rw (← numeric-is) z)
+      pub no-digits : d .count ≡ 0 → tagOfBank b ≡ refused 19 (0x20 + at)
+      no-digits z = let g = r .begun in wrong-numeric b s body (g .coded) (g .listed) (g .small) below (rw (← r .shape) some) (rw (← numeric-is) z) ∙ ap (refused 19) place
 
       pub some-digits : ¬ (d .count ≡ 0)
-          → record { number = 0; tag = record { scheme = s; filter = k .filter; prefix = k .prefix; digits = k .digits; reference = v; serial = d .value; characters = replicate 20 0; count = d .count } } ≡ readingOf (tagOfBank b)
+          → record { number = 0; place = 0; tag = record { scheme = s; filter = k .filter; prefix = k .prefix; digits = k .digits; reference = v; serial = d .value; characters = replicate 20 0; count = d .count } } ≡ readingOf (tagOfBank b)
       some-digits o =
           let g = r .begun in
           rw (numeric-is, r .reference, r .shape, g .company) (sym (right-numeric b s body (g .coded) (g .listed) (g .small) below (rw (← r .shape) some) (rw (← numeric-is) o)))

@@ -9,8 +9,9 @@ use Rattle.rules.proofs.Rows.{AllRows, by-row}
 use Rattle.rules.specs.declared.Body.{Body}
 use Rattle.rules.specs.declared.Parts.{Parts}
 use Rattle.rules.specs.declared.Parts.the-variants.{F, Integers}
+use Rattle.rules.specs.Conditions.{zerosFrom}
 use Rattle.bank.specs.declared.reading.Shape.{Shape}
-use Rattle.bank.specs.Reading.{endOf, shapeOf}
+use Rattle.bank.specs.Reading.{shapeOf}
 
 -- what stands behind the company prefix of a row, in W words
 pub record Roomy (W : ℕ) (r : Row) (s : Shape) : Type 0 where
@@ -28,7 +29,7 @@ Inside W (Integers a b c) = 8 + a + b + c ≤ 16 * W
 
 -- what is seen scheme by scheme: the zeros behind the parts are a word at most, and so is each field
 pub record Sizes (s : Scheme) : Type 0 where
-  pub zeros : 16 * words s - endOf s ≤ 64
+  pub zeros : 16 * words s - zerosFrom s ≤ 64
   pub inside : Inside (words s) (about s .parts)
 
 pub sizes : (s : Scheme) → Sizes s

@@ -12,25 +12,21 @@ use Rattle.rules.specs.declared.Body.the-variants.{Then, Zeros, E}
 use Rattle.rules.specs.declared.Parts.{Parts}
 use Rattle.rules.specs.declared.Parts.the-variants.{F}
 use Rattle.rules.specs.Answers.{taken}
-use Rattle.rules.specs.Schemes.{Row, schemes, about, words, zeroBits, prefixBits, prefixDigits, assetBits}
+use Rattle.rules.specs.Schemes.{Row, schemes, about, words, prefixBits, prefixDigits, assetBits}
 use Rattle.rules.specs.Coding.{at}
 use Rattle.rules.specs.BankNumbers.{headed, controlIn}
-use Rattle.rules.specs.Conditions.{partitionIn, rowIn}
+use Rattle.rules.specs.Conditions.{partitionIn, rowIn, zerosFrom}
 use Rattle.scheme.specs.declared.rows.Cell.{Cell}
 use Rattle.scheme.specs.Rows.{referenceOf}
 use Rattle.fields.specs.BitReaders.{codeField}
 use Rattle.bank.specs.declared.reading.Company.{Company}
 use Rattle.bank.specs.declared.reading.Shape.{Shape}
 
--- the code bit where the parts of a scheme end, and only zeros follow
-abbrev pub endOf : Scheme → ℕ
-endOf s = about s .bits - zeroBits (about s .parts)
-
 -- the rules 9 to 15 do not apply: the words are a code of the scheme s, whose parts are p, and zeros
 pub record Coded (b : List ℕ) (s : Scheme) (p : Parts) : Type 0 where
   pub clean : controlIn b ≡ taken (words s)
   pub header : headed (at b 0x20 8) schemes ≡ some s
-  pub zeros : codeField b (endOf s) (16 * words s - endOf s) ≡ 0
+  pub zeros : codeField b (zerosFrom s) (16 * words s - zerosFrom s) ≡ 0
   pub parts : about s .parts ≡ p
 
 -- the code bits behind the header and behind the company prefix

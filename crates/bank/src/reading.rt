@@ -2,7 +2,9 @@
 // the one before it stopped, and returns the whole bank's result.
 use super::eights;
 use fields::bitreader::take;
+use fields::bitreader::zeros_before;
 use fields::control;
+use fields::control::WORD_COUNT;
 use rules::Body;
 use rules::Last;
 use rules::MOST_CHARACTERS;
@@ -15,6 +17,7 @@ use scheme::outlines::by_header;
 use scheme::record::Reading;
 use scheme::record::Record;
 use scheme::record::refused;
+use scheme::record::refused_at;
 use scheme::refusal;
 use scheme::rows;
 use scheme::rows::Cell;
@@ -121,6 +124,7 @@ fn general(bank: &[u8], at: CodeBit, s: Scheme, a: usize, b: usize, c: usize) ->
     let third = take(bank, second.at, c);
     Reading {
         number: 0,
+        place: 0,
         tag: Record {
             scheme: s,
             filter: 0,
@@ -157,10 +161,11 @@ fn numeric_behind(
 {
     let digits = behind_one(take(bank, at, shape.serial).value, shape.most);
     if digits.count == 0 {
-        return refused(refusal::STRING);
+        return refused_at(refusal::STRING, at);
     }
     Reading {
         number: 0,
+        place: 0,
         tag: Record {
             scheme: s,
             filter: company.filter,
@@ -182,7 +187,7 @@ fn behind_prefix(bank: &[u8], at: CodeBit, s: Scheme, body: Body, company: Compa
     let shape = shape_in(body, company.row);
     let reference = take(bank, at, shape.cell.bits);
     if power(shape.cell.digits) <= reference.value {
-        return refused(refusal::REFERENCE_TOO_LARGE);
+        return refused_at(refusal::REFERENCE_TOO_LARGE, at);
     }
     if shape.most != 0 {
         return numeric_behind(bank, reference.at, s, body, company, shape, reference.value);
@@ -191,12 +196,13 @@ fn behind_prefix(bank: &[u8], at: CodeBit, s: Scheme, body: Body, company: Compa
     let count = alphabet::count(&characters, shape.groups);
     if count == 0 {
         if shape.groups != 0 {
-            return refused(refusal::STRING);
+            return refused_at(refusal::STRING, reference.at);
         }
     }
     let serial = take(bank, reference.at, shape.serial);
     Reading {
         number: 0,
+        place: 0,
         tag: Record {
             scheme: s,
             filter: company.filter,
@@ -219,12 +225,12 @@ fn partitioned(bank: &[u8], at: CodeBit, s: Scheme, body: Body) -> Reading
     let partition = take(bank, filter.at, 3);
     let row = partition.value as usize;
     if row == 7 {
-        return refused(refusal::PARTITION);
+        return refused_at(refusal::PARTITION, filter.at);
     }
     let cell = rows::prefix(row);
     let prefix = take(bank, partition.at, cell.bits);
     if power(cell.digits) <= prefix.value {
-        return refused(refusal::PREFIX_TOO_LARGE);
+        return refused_at(refusal::PREFIX_TOO_LARGE, partition.at);
     }
     let company = Company {
         filter: filter.value,
@@ -242,16 +248,19 @@ fn coded(bank: &[u8], words: usize) -> Reading
 {
     let header = take(bank, CodeBit(0), 8);
     let Headed::Is(s) = by_header(header.value as u8) else {
-        return refused(refusal::HEADER);
+        return refused_at(refusal::HEADER, CodeBit(0));
     };
     let outline = about(s);
     if words != outline.words {
-        return refused(refusal::WORD_COUNT);
+        return refused(refusal::WORD_COUNT, WORD_COUNT.0);
     }
     let p = outline.parts;
     let end = outline.bits - zeros(p);
-    if take(bank, CodeBit(end), 16 * words - end).value != 0 {
-        return refused(refusal::FILL_BITS);
+    let width = 16 * words - end;
+    let fill = take(bank, CodeBit(end), width).value;
+    if fill != 0 {
+        let one = CodeBit(end).behind(zeros_before(fill, width));
+        return refused_at(refusal::FILL_BITS, one);
     }
     match p {
         Parts::Integers(a, b, c) => general(bank, header.at, s, a, b, c),
@@ -266,7 +275,7 @@ pub fn read(bank: &[u8]) -> Reading
     let control = control::clean(bank);
     let number = control.number;
     if number != 0 {
-        return refused(number);
+        return refused(number, control.place);
     }
     coded(bank, control.words)
 }

@@ -10,7 +10,7 @@ use Rattle.capi.specs.declared.Reply.{Reply}
 use Rattle.capi.specs.declared.Shown.{Shown}
 
 abbrev pub replied : Reply → List ℕ → Call
-replied r out = record { number = r .number; written = r .length; output = out }
+replied r out = record { number = r .number; place = r .place; written = r .length; output = out }
 
 -- The line is the first bytes of the text that it names: those and no fewer of the right text (document 01, "Screen").
 pub record Shows (tag raw : List ℕ) (number : ℕ) (r : Shown) : Type 0 where

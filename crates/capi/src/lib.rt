@@ -1,15 +1,18 @@
-// The four public calls for other languages (include/tagcodec.h). A lent slice is a pointer and a length, an answer two numbers. No call
+// The four public calls for other languages (include/tagcodec.h). A lent slice is a pointer and a length, an answer three numbers. No call
 // has a condition; what C itself owes of a pointer stands in the header.
 ghost use mathlib.Core.Path.{_≡_};
+ghost use Prim.Native.Nat.{_^_, _<_};
 ghost use Rattle.rules.specs.Calls.{textToBank, bankToText, rawLine};
-ghost use Rattle.codec.specs.Answers.{numberOf, lengthOf};
+ghost use Rattle.codec.specs.Answers.{numberOf, placeOf, lengthOf};
 ghost use Rattle.capi.specs.Replies.{replied, Shows};
 use codec::Answer;
 
-// What a call gives: document 01's number, and the length written.
+// What a call gives: document 01's number, its place, and the length written. Number and place share a word, so that a reply is returned in
+// two registers.
 #[repr(C)]
 pub struct Reply {
     pub number: u32,
+    pub place: u32,
     pub length: usize,
 }
 
@@ -26,16 +29,20 @@ pub struct Shown {
 }
 
 fn in_numbers(answer: Answer) -> Reply
+    requires { ⌜ placeOf answer < 2 ^ 16 ⌝ }
     ensures number { λ r. ⌜ r .number ≡ numberOf answer ⌝ }
+    ensures place { λ r. ⌜ r .place ≡ placeOf answer ⌝ }
     ensures length { λ r. ⌜ r .length ≡ lengthOf answer ⌝ }
 {
     match answer {
         Answer::Written(length) => Reply {
             number: 0,
+            place: 0,
             length: length,
         },
-        Answer::Refused(number) => Reply {
+        Answer::Refused(number, place) => Reply {
             number: number as u32,
+            place: place as u32,
             length: 0,
         },
     }

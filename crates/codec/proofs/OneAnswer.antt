@@ -1,4 +1,4 @@
--- No second answer keeps a call's contract. Number and length tell the answers apart, because what is accepted is never empty.
+-- No second answer keeps a call's contract. Number, place and length tell the answers apart, because what is accepted is never empty.
 use Prim.Native.Nat.{ℕ, _<_}
 use mathlib.Core.Path.{_≡_, refl, sym, ap, _∙_}
 use mathlib.Core.List.{List}
@@ -47,14 +47,14 @@ raw-line-full b out e =
     rw (n, r) (raw-full b)
 
 module _ (c : Call) (full : Full c) where
-  told-apart : (n m : ℕ) (o p : List ℕ) → answered (Written n) o ≡ c → ¬ (answered (Refused m) p ≡ c)
-  told-apart n m o p e f = omega (arith, full (sym (ap (λ x. x .number) e)), ap (λ x. x .written) f)
+  told-apart : (n m i : ℕ) (o p : List ℕ) → answered (Written n) o ≡ c → ¬ (answered (Refused m i) p ≡ c)
+  told-apart n m i o p e f = omega (arith, full (sym (ap (λ x. x .number) e)), ap (λ x. x .written) f)
 
   pub one-answer : (r s : Answer) (o p : List ℕ) → answered r o ≡ c → answered s p ≡ c → (r ≡ s) × (o ≡ p)
   one-answer (Written n) (Written m) o p e f = (ap Written (ap (λ x. x .written) (e ∙ sym f)), ap (λ x. x .output) (e ∙ sym f))
-  one-answer (Refused n) (Refused m) o p e f = (ap Refused (ap (λ x. x .number) (e ∙ sym f)), ap (λ x. x .output) (e ∙ sym f))
-  one-answer (Written n) (Refused m) o p e f = absurd (told-apart n m o p e f)
-  one-answer (Refused n) (Written m) o p e f = absurd (told-apart m n p o f e)
+  one-answer (Refused n i) (Refused m j) o p e f = (ap (λ x. Refused (x .number) (x .place)) (e ∙ sym f), ap (λ x. x .output) (e ∙ sym f))
+  one-answer (Written n) (Refused m i) o p e f = absurd (told-apart n m i o p e f)
+  one-answer (Refused n i) (Written m) o p e f = absurd (told-apart m n i p o f e)
 
 module _ (r s : Answer) (o p : List ℕ) where
   pub one-answer-of-text-to-bank : (t out : List ℕ) → answered r o ≡ textToBank t out → answered s p ≡ textToBank t out → (r ≡ s) × (o ≡ p)

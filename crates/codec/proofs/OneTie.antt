@@ -18,10 +18,10 @@ use Rattle.codec.proofs.OneAnswer.{Full, written-full, shown-full, text
 
 -- a first answer a, whose refusals have a number, and then w, which is not empty
 then-full : (a : RulesAnswer (List ℕ)) (first : List ℕ) → Full (call first a) → (room : ℕ) (w out : List ℕ) → (call first a .number ≡ 0 → 0 < length w) → Full (call out (a >>= λ _. lent room out (taken w)))
-then-full (refused n) first full room w out some e = absurd (omega (arith, full e))
+then-full (refused n p) first full room w out some e = absurd (omega (arith, full e))
 then-full (taken x) first full room w out some e = go (leb room (length out)) e
   where
-    go : (b : Bool) → call out (demand b 1 >> taken w) .number ≡ 0 → 0 < call out (demand b 1 >> taken w) .written
+    go : (b : Bool) → call out (demand b 1 0 >> taken w) .number ≡ 0 → 0 < call out (demand b 1 0 >> taken w) .written
     go true e = some refl
     go false e = absurd (omega arith)
 

@@ -6,9 +6,9 @@ use Rattle.rules.specs.Answers.{refused, taken}
 use Rattle.rules.specs.BankNumbers.{wordsIn}
 use Rattle.rules.specs.Raw.{rawText, rawOfBank}
 
-pub raw-refused : (b : List ℕ) (n : ℕ) → wordsIn b ≡ refused n → rawOfBank b ≡ refused n
+pub raw-refused : (b : List ℕ) (n p : ℕ) → wordsIn b ≡ refused n p → rawOfBank b ≡ refused n p
 unfolding rawOfBank
-raw-refused b n e = rw e
+raw-refused b n p e = rw e
 
 pub raw-taken : (b : List ℕ) (W : ℕ) → wordsIn b ≡ taken W → rawOfBank b ≡ taken (rawText b)
 unfolding rawOfBank

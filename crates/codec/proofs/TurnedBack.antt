@@ -25,7 +25,7 @@ module _ (a : Answer (List ℕ)) (before after : List ℕ) where
   room-for = go a
     where
       go : (a : Answer (List ℕ)) (n : ℕ) → answered (Written n) after ≡ call before a → n ≤ length after
-      go (refused m) n e = omega (arith, ap (λ c. c .written) e)
+      go (refused m p) n e = omega (arith, ap (λ c. c .written) e)
       go (taken w) n e =
           rw (ap (λ c. c .output) e, length-append) (omega (arith, ap (λ c. c .written) e))
 
@@ -34,23 +34,23 @@ module _ (a : Answer (List ℕ)) (before after : List ℕ) where
     then-second n e = go a refl
       where
         go : (x : Answer (List ℕ)) → a ≡ x → call out (f (take n after)) ≡ call out (x >>= λ w. z)
-        go (refused m) q =
-            let g : answered (Written n) after ≡ call before (refused m) = e ∙ ap (call before) q in
-            let p : 0 < call before a .written = full (ap (λ x. call before x .number) q ∙ sym (ap (λ c. c .number) g)) in
-            absurd (omega (arith, p, ap (λ x. call before x .written) q))
+        go (refused m p) q =
+            let g : answered (Written n) after ≡ call before (refused m p) = e ∙ ap (call before) q in
+            let k : 0 < call before a .written = full (ap (λ x. call before x .number) q ∙ sym (ap (λ c. c .number) g)) in
+            absurd (omega (arith, k, ap (λ x. call before x .written) q))
         go (taken w) q =
             let g : answered (Written n) after ≡ call before (taken w) = e ∙ ap (call before) q in
             let t : take n after ≡ w = ap (λ c. take (c .written) (c .output)) g ∙ take-at w (drop (length w) before) (length w) refl in
             ap (call out) (ap f t ∙ same w q)
 
-    then-none : (n : ℕ) → answered (Refused n) after ≡ call before a → answered (Refused n) out ≡ call out (a >>= λ w. z)
-    then-none n e = go a refl
+    then-none : (n p : ℕ) → answered (Refused n p) after ≡ call before a → answered (Refused n p) out ≡ call out (a >>= λ w. z)
+    then-none n p e = go a refl
       where
-        go : (x : Answer (List ℕ)) → a ≡ x → answered (Refused n) out ≡ call out (x >>= λ w. z)
-        go (refused m) q = ap (λ c. call out (refused (c .number))) (e ∙ ap (call before) q)
+        go : (x : Answer (List ℕ)) → a ≡ x → answered (Refused n p) out ≡ call out (x >>= λ w. z)
+        go (refused m i) q = ap (λ c. call out (refused (c .number) (c .place))) (e ∙ ap (call before) q)
         go (taken w) q =
-            let p : 0 < call before a .written = full (ap (λ x. call before x .number) q) in
-            absurd (omega (arith, p, ap (λ c. c .written) e))
+            let k : 0 < call before a .written = full (ap (λ x. call before x .number) q) in
+            absurd (omega (arith, k, ap (λ c. c .written) e))
 
 -- bank to text, then text to bank
 module _ (b text out : List ℕ) (d : Digits 256 b) where
@@ -75,7 +75,7 @@ module _ (b text out : List ℕ) (d : Digits 256 b) where
     unfolding bankToText textToBank
     shown-again = then-second (textAnswer b text) text after (shown-full b text d) (λ t. bankAnswer t out) (lent bankRoom out (taken (within b))) bank-again out n
 
-    pub not-shown : answered (Refused n) after ≡ bankToText b text → answered (Refused n) out ≡ writtenAgain b text out
+    pub not-shown : (p : ℕ) → answered (Refused n p) after ≡ bankToText b text → answered (Refused n p) out ≡ writtenAgain b text out
     unfolding bankToText
     not-shown = then-none (textAnswer b text) text after (shown-full b text d) (λ t. bankAnswer t out) (lent bankRoom out (taken (within b))) bank-again out n
 
@@ -105,6 +105,6 @@ module _ (t bank out : List ℕ) where
     unfolding bankToText textToBank
     written-again = then-second (bankAnswer t bank) bank after (written-full t bank) (λ b. textAnswer b out) (lent textRoom out (taken t)) text-again out n
 
-    pub not-written : answered (Refused n) after ≡ textToBank t bank → answered (Refused n) out ≡ shownAgain t bank out
+    pub not-written : (p : ℕ) → answered (Refused n p) after ≡ textToBank t bank → answered (Refused n p) out ≡ shownAgain t bank out
     unfolding textToBank
     not-written = then-none (bankAnswer t bank) bank after (written-full t bank) (λ b. textAnswer b out) (lent textRoom out (taken t)) text-again out n

@@ -1,4 +1,4 @@
--- What an answer says: document 01's number and length, and with the output the call of the written rules.
+-- What an answer says: the number, the place and the length, and with the output the call of the written rules.
 use Prim.Native.Nat.{ℕ}
 use mathlib.Core.List.{List}
 use mathlib.Core.Bool.{cond}
@@ -9,14 +9,18 @@ use Rattle.codec.specs.declared.Answer.the-variants.{Written, Refused}
 
 abbrev pub numberOf : Answer → ℕ
 numberOf (Written n) = 0
-numberOf (Refused n) = n
+numberOf (Refused n p) = n
+
+abbrev pub placeOf : Answer → ℕ
+placeOf (Written n) = 0
+placeOf (Refused n p) = p
 
 abbrev pub lengthOf : Answer → ℕ
 lengthOf (Written n) = n
-lengthOf (Refused n) = 0
+lengthOf (Refused n p) = 0
 
 abbrev pub answered : Answer → List ℕ → Call
-answered r out = record { number = numberOf r; written = lengthOf r; output = out }
+answered r out = record { number = numberOf r; place = placeOf r; written = lengthOf r; output = out }
 
 -- which of the two lent texts the line on the screen is a part of, from its start
 abbrev pub chosen : {A : Type 0} → ℕ → A → A → A

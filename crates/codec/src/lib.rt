@@ -13,10 +13,11 @@ pub const BANK_ROOM: usize = 64;
 
 pub const TEXT_ROOM: usize = 160;
 
-// What a call gives: accepted with the length written, or refused with a number ("Numbers given, and when").
+// What a call gives: accepted with the length written, or refused with a number ("Numbers given, and when") and its place (document 02, C-12):
+// an offset in the text, or an address in the bank.
 pub enum Answer {
     Written(usize),
-    Refused(u8),
+    Refused(u8, usize),
 }
 
 // Text to bank: numbers 1 to 8. The bank is written from the output's start on.
@@ -24,12 +25,12 @@ pub fn text_to_bank(text: &[u8], out: &mut [u8]) -> Answer
     ensures { λ r. ⌜ answered r (now (out .exit)) ≡ textToBank (now (text .entry)) (now (out .entry)) ⌝ }
 {
     if out.len() < BANK_ROOM {
-        return Answer::Refused(refusal::OUTPUT_TOO_SHORT);
+        return Answer::Refused(refusal::OUTPUT_TOO_SHORT, 0);
     }
     let reading = text::reading::read(text);
     let number = reading.number;
     if number != 0 {
-        return Answer::Refused(number);
+        return Answer::Refused(number, reading.place);
     }
     let tag = reading.tag;
     Answer::Written(bank::writing::write(tag, out))
@@ -40,12 +41,12 @@ pub fn bank_to_text(bank: &[u8], out: &mut [u8]) -> Answer
     ensures { λ r. ⌜ answered r (now (out .exit)) ≡ bankToText (now (bank .entry)) (now (out .entry)) ⌝ }
 {
     if out.len() < TEXT_ROOM {
-        return Answer::Refused(refusal::OUTPUT_TOO_SHORT);
+        return Answer::Refused(refusal::OUTPUT_TOO_SHORT, 0);
     }
     let reading = bank::reading::read(bank);
     let number = reading.number;
     if number != 0 {
-        return Answer::Refused(number);
+        return Answer::Refused(number, reading.place);
     }
     let tag = reading.tag;
     Answer::Written(text::writing::write(tag, out))
@@ -56,11 +57,11 @@ pub fn raw_line(bank: &[u8], out: &mut [u8]) -> Answer
     ensures { λ r. ⌜ answered r (now (out .exit)) ≡ rawLine (now (bank .entry)) (now (out .entry)) ⌝ }
 {
     if out.len() < TEXT_ROOM {
-        return Answer::Refused(refusal::OUTPUT_TOO_SHORT);
+        return Answer::Refused(refusal::OUTPUT_TOO_SHORT, 0);
     }
     let control = fields::control::words(bank);
     if control.number != 0 {
-        return Answer::Refused(control.number);
+        return Answer::Refused(control.number, control.place);
     }
     Answer::Written(bank::raw::write(bank, control.words, out))
 }

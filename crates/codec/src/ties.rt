@@ -11,7 +11,7 @@ pub fn write_again(bank: &[u8], text: &mut [u8], out: &mut [u8]) -> crate::Answe
 {
     match crate::bank_to_text(bank, text) {
         crate::Answer::Written(length) => crate::text_to_bank(&text[..length], out),
-        crate::Answer::Refused(number) => crate::Answer::Refused(number),
+        crate::Answer::Refused(number, place) => crate::Answer::Refused(number, place),
     }
 }
 
@@ -22,6 +22,6 @@ pub fn show_again(text: &[u8], bank: &mut [u8], out: &mut [u8]) -> crate::Answer
 {
     match crate::text_to_bank(text, bank) {
         crate::Answer::Written(length) => crate::bank_to_text(&bank[..length], out),
-        crate::Answer::Refused(n) => crate::Answer::Refused(n),
+        crate::Answer::Refused(n, place) => crate::Answer::Refused(n, place),
     }
 }

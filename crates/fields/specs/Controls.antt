@@ -4,5 +4,5 @@ use Rattle.rules.specs.Answers.{Answer, refused, taken}
 use Rattle.fields.specs.declared.control.Control.{Control}
 
 abbrev pub controlOf : Answer ℕ → Control
-controlOf (refused n) = record { number = n; words = 0 }
-controlOf (taken W) = record { number = 0; words = W }
+controlOf (refused n p) = record { number = n; place = p; words = 0 }
+controlOf (taken W) = record { number = 0; place = 0; words = W }

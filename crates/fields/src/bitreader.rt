@@ -3,8 +3,10 @@
 use scheme::counts::BankAddress;
 use scheme::counts::CodeBit;
 ghost use mathlib.Core.Path.{_≡_};
+ghost use Prim.Native.Nat.{_^_, _≤_, _<_};
 ghost use lib.ListN.{length};
-ghost use Rattle.rules.specs.Coding.{at};
+ghost use Rattle.rules.specs.Coding.{binary, at};
+ghost use Rattle.rules.specs.BankNumbers.{zerosBefore};
 ghost use Rattle.fields.specs.BitReaders.{Lies, LiesInCode, stepOf, readerOf, takenOf};
 
 // The number in the `width` bits from a bank address on.
@@ -12,7 +14,7 @@ pub fn field_at(bank: &[u8], a: BankAddress, width: usize) -> u64
     requires { ⌜ Lies (a .0) width (length (now bank)) ⌝ }
     ensures { λ r. ⌜ r ≡ at (now (bank .entry)) (a .0) width ⌝ }
 {
-    bits::field(bank, a.place(), width)
+    bits::field(bank, a.index(), width)
 }
 
 // A number that was taken, and the code bit behind its bits.
@@ -31,6 +33,14 @@ pub fn step_at(bank: &[u8], c: CodeBit, width: usize) -> Step
         value,
         at: c.behind(width),
     }
+}
+
+// How many of the `width` bits of a number that is not 0 stand before its first one bit.
+pub fn zeros_before(v: u64, width: usize) -> usize
+    requires { ⌜ (0 < v) × (v < 2 ^ width) × (width ≤ 64) ⌝ }
+    ensures { λ r. ⌜ r ≡ zerosBefore (binary width v) ⌝ }
+{
+    u64::leading_zeros(v) as usize + width - 64
 }
 
 // The bit reader: the bank's slice, and the code bit where it stands.

@@ -1,4 +1,5 @@
-// The control word, addresses 10h to 1Fh: the word count and the rules 9 to 12 (document 01, "The bank" and "Numbers given, and when").
+// The control word, addresses 10h to 1Fh: the word count and the rules 9 to 12 (document 01, "The bank" and "Numbers given, and when"), with
+// their places (document 02, C-12).
 use super::bitreader::field_at;
 use scheme::counts::BankAddress;
 use scheme::refusal;
@@ -9,17 +10,32 @@ ghost use Rattle.rules.specs.Coding.{bankSize};
 ghost use Rattle.rules.specs.BankNumbers.{wordsIn, controlIn};
 ghost use Rattle.fields.specs.Controls.{controlOf};
 
-// The word count W of a bank, and the number of the first of the rules that refuses it. The number is 0 where none does; otherwise W is 0.
+// The word count W of a bank, and the number and the place of the first of the rules that refuses it. Both are 0 where none does; otherwise
+// W is 0.
 pub struct Control {
     pub number: u8,
+    pub place: usize,
     pub words: usize,
 }
 
-fn refused(number: u8) -> Control
-    ensures { λ r. ⌜ r ≡ controlOf (refusedWith number) ⌝ }
+fn refused(number: u8, place: usize) -> Control
+    ensures { λ r. ⌜ r ≡ controlOf (refusedWith number place) ⌝ }
 {
-    Control { number, words: 0 }
+    Control {
+        number,
+        place,
+        words: 0,
+    }
 }
+
+// The fields of the control word: where the word count, the bits 15h and 16h, the toggle, and the attribute bits or the AFI begin.
+pub const WORD_COUNT: BankAddress = BankAddress(0x10);
+
+const USER_MEMORY: BankAddress = BankAddress(0x15);
+
+const TOGGLE: BankAddress = BankAddress(0x17);
+
+const ATTRIBUTES: BankAddress = BankAddress(0x18);
 
 // The bytes of a bank of so many words: the control word and the code.
 pub fn size(words: usize) -> usize
@@ -34,16 +50,20 @@ pub fn words(bank: &[u8]) -> Control
     ensures { λ r. ⌜ r ≡ controlOf (wordsIn (now (bank .entry))) ⌝ }
 {
     if bank.len() < 2 {
-        return refused(refusal::BANK_TOO_SHORT);
+        return refused(refusal::BANK_TOO_SHORT, bank.len());
     }
-    let words = field_at(bank, BankAddress(0x10), 5) as usize;
+    let words = field_at(bank, WORD_COUNT, 5) as usize;
     if bank.len() < size(words) {
-        return refused(refusal::BANK_TOO_SHORT);
+        return refused(refusal::BANK_TOO_SHORT, bank.len());
     }
     if words == 0 {
-        return refused(refusal::NO_WORDS);
+        return refused(refusal::NO_WORDS, WORD_COUNT.0);
     }
-    Control { number: 0, words }
+    Control {
+        number: 0,
+        place: 0,
+        words,
+    }
 }
 
 // Rules 9 to 12: the other eleven control bits are 0 too.
@@ -54,14 +74,14 @@ pub fn clean(bank: &[u8]) -> Control
     if control.number != 0 {
         return control;
     }
-    if field_at(bank, BankAddress(0x17), 1) != 0 {
-        return refused(refusal::TOGGLE);
+    if field_at(bank, TOGGLE, 1) != 0 {
+        return refused(refusal::TOGGLE, TOGGLE.0);
     }
-    if field_at(bank, BankAddress(0x15), 2) != 0 {
-        return refused(refusal::CONTROL_BITS);
+    if field_at(bank, USER_MEMORY, 2) != 0 {
+        return refused(refusal::CONTROL_BITS, USER_MEMORY.0);
     }
-    if field_at(bank, BankAddress(0x18), 8) != 0 {
-        return refused(refusal::CONTROL_BITS);
+    if field_at(bank, ATTRIBUTES, 8) != 0 {
+        return refused(refusal::CONTROL_BITS, USER_MEMORY.0);
     }
     control
 }

@@ -45,24 +45,24 @@ fitting (numeric b k) n zero v = false
 
 -- what a part that stands at an index is in code
 abbrev pub foundOf : ℕ → Answer (List ℕ) → Part
-foundOf at (refused n) = Wrong
+foundOf at (refused n p) = Wrong p
 foundOf at (taken p) = Found (value 10 p) (length p) (at + length p + 1)
 
 -- what a part that ends the text is in code
 abbrev pub endOf : Answer (List ℕ) → End
-endOf (refused n) = Refused n
+endOf (refused n p) = Refused n p
 endOf (taken p) = Is (value 10 p)
 
--- a part of more digits than are read, by the rest of it, and whether a zero stands where none may
-abbrev pub longerOf : Bool → Bool → End
-longerOf true true = Refused 7
-longerOf true false = Refused 8
-longerOf false zero = Refused 7
+-- a part of more digits than are read, by where it begins, the rest of it, and whether a zero stands where none may
+abbrev pub longerOf : ℕ → Bool → Bool → End
+longerOf i true true = Refused 7 i
+longerOf i true false = Refused 8 i
+longerOf i false zero = Refused 7 i
 
--- an integer by its number of digits, its first digit and its value: its form, then its size
-abbrev pub sizedOf : Bool → ℕ → End
-sizedOf true v = Is v
-sizedOf false v = Refused 8
+-- an integer by where it begins, its number of digits, its first digit and its value: its form, then its size
+abbrev pub sizedOf : ℕ → Bool → ℕ → End
+sizedOf i true v = Is v
+sizedOf i false v = Refused 8 i
 
-abbrev pub shorterOf : ℕ → ℕ → Bool → ℕ → End
-shorterOf b n zero v = cond (plainly n zero) (sizedOf (ltb v (2 ^ b)) v) (Refused 7)
+abbrev pub shorterOf : ℕ → ℕ → ℕ → Bool → ℕ → End
+shorterOf i b n zero v = cond (plainly n zero) (sizedOf i (ltb v (2 ^ b)) v) (Refused 7 i)

@@ -25,7 +25,7 @@ use Rattle.replies.specs.Replies.{replyB, replyN, ofText}
 
 -- no refusal has number 0, and nothing that is taken is empty
 abbrev Firm : Answer (List ℕ) → Type 0
-Firm (refused n) = 0 < n
+Firm (refused n p) = 0 < n
 Firm (taken w) = 0 < length w
 
 module _ (room : ℕ) (out : List ℕ) (a : Answer (List ℕ)) (n : ℕ) (e : List ℕ) (firm : Firm a) (l : room ≤ length out) where
@@ -33,29 +33,29 @@ module _ (room : ℕ) (out : List ℕ) (a : Answer (List ℕ)) (n : ℕ) (e : Li
   was-written h = go a firm (rw (le-leb room (length out) l) at h)
     where
       go : (b : Answer (List ℕ)) → Firm b → answered (Written n) e ≡ call out b → (w : List ℕ) × (b ≡ taken w) × (n ≡ length w) × (e ≡ w ++ drop (length w) out)
-      go (refused m) f h = absurd (omega (arith, ap (λ c. c .number) h))
+      go (refused m p) f h = absurd (omega (arith, ap (λ c. c .number) h))
       go (taken w) f h = (w, refl, ap (λ c. c .written) h, ap (λ c. c .output) h)
 
-  was-refused : answered (Refused n) e ≡ call out (lent room out a) → (a ≡ refused n) × (e ≡ out)
-  was-refused h = go a firm (rw (le-leb room (length out) l) at h)
+  was-refused : (p : ℕ) → answered (Refused n p) e ≡ call out (lent room out a) → (a ≡ refused n p) × (e ≡ out)
+  was-refused p h = go a firm (rw (le-leb room (length out) l) at h)
     where
-      go : (b : Answer (List ℕ)) → Firm b → answered (Refused n) e ≡ call out b → (b ≡ refused n) × (e ≡ out)
-      go (refused m) f h = (ap refused (sym (ap (λ c. c .number) h)), ap (λ c. c .output) h)
+      go : (b : Answer (List ℕ)) → Firm b → answered (Refused n p) e ≡ call out b → (b ≡ refused n p) × (e ≡ out)
+      go (refused m q) f h = (ap (λ c. refused (c .number) (c .place)) (sym h), ap (λ c. c .output) h)
       go (taken w) f h = absurd (omega (arith, ap (λ c. c .written) h))
 
 -- A tag that is read, and then written in another form.
 module _ (form : Tag → List ℕ) (full : (τ : Tag) → 0 < length (form τ)) where
   firm : (rs : List Rule) (Right : Tag → Type 0) (a : Answer Tag) → Reads rs Right a → Firm (a >>= λ τ. taken (form τ))
-  firm rs Right (refused n) h = h .1
+  firm rs Right (refused n p) h = h .1
   firm rs Right (taken τ) h = full τ
 
   tag-taken : (a : Answer Tag) (w : List ℕ) → (a >>= λ τ. taken (form τ)) ≡ taken w → (τ : Tag) × (a ≡ taken τ) × (form τ ≡ w)
-  tag-taken (refused n) w e = let z : _≡_ {A = ℕ} 0 1 = cc in absurd (omega arith)
+  tag-taken (refused n p) w e = let z : _≡_ {A = ℕ} 0 1 = cc in absurd (omega arith)
   tag-taken (taken τ) w e = (τ, refl, cc)
 
-  tag-refused : (a : Answer Tag) (n : ℕ) → (a >>= λ τ. taken (form τ)) ≡ refused n → a ≡ refused n
-  tag-refused (refused m) n e = let f : m ≡ n = cc in ap refused f
-  tag-refused (taken τ) n e = let z : _≡_ {A = ℕ} 0 1 = cc in absurd (omega arith)
+  tag-refused : (a : Answer Tag) (n p : ℕ) → (a >>= λ τ. taken (form τ)) ≡ refused n p → a ≡ refused n p
+  tag-refused (refused m q) n p e = let f : m ≡ n = cc in let g : q ≡ p = cc in rw (f, g)
+  tag-refused (taken τ) n p e = let z : _≡_ {A = ℕ} 0 1 = cc in absurd (omega arith)
 
 some-bytes : (τ : Tag) → 0 < length (bankOf τ)
 some-bytes τ = omega (arith, bank-length τ)
@@ -68,7 +68,7 @@ raw-firm : (b : List ℕ) → Firm (rawOfBank b)
 raw-firm b = go (rawOfBank b) (raw-reads b)
   where
     go : (a : Answer (List ℕ)) → Reads (rawRules b) (λ w. (w ≡ rawText b) × (2 ≤ length b) × (bankSize (wordCount b) ≤ length b)) a → Firm a
-    go (refused n) h = h .1
+    go (refused n p) h = h .1
     go (taken w) h = rw (h .1 .0) some-raw
       where
         some-raw : 0 < length (rawText b)
@@ -84,11 +84,11 @@ module _ (t out e : List ℕ) (n : ℕ) (l : bankRoom ≤ length out) where
       let p : take n e ≡ w = ap (take n) o ∙ take-at w (drop (length w) out) n (sym c) in
       (omega (arith, c, ap length f, bank-size τ), c ∙ ap length (sym p), ap ofText i ∙ ap replyB (f ∙ sym p))
 
-  pub text-refused : answered (Refused n) e ≡ textToBank t out → ofText (tagOfText t) ≡ replyN n
+  pub text-refused : (p : ℕ) → answered (Refused n p) e ≡ textToBank t out → ofText (tagOfText t) ≡ replyN n
   unfolding textToBank
-  text-refused h =
-      let (a, o) = was-refused bankRoom out (tagOfText t >>= λ τ. taken (bankOf τ)) n e (firm bankOf some-bytes (textRules t) (TagText t) (tagOfText t) (tag-reads t)) l h in
-      ap ofText (tag-refused bankOf some-bytes (tagOfText t) n a)
+  text-refused p h =
+      let (a, o) = was-refused bankRoom out (tagOfText t >>= λ τ. taken (bankOf τ)) n e (firm bankOf some-bytes (textRules t) (TagText t) (tagOfText t) (tag-reads t)) l p h in
+      ap ofText (tag-refused bankOf some-bytes (tagOfText t) n p a)
 
 module _ (b out e : List ℕ) (n : ℕ) (l : textRoom ≤ length out) where
   pub text-written : answered (Written n) e ≡ bankToText b out
@@ -101,11 +101,11 @@ module _ (b out e : List ℕ) (n : ℕ) (l : textRoom ≤ length out) where
       let k : length (textOf τ) ≤ 99 = text-length (textOf τ) τ (record { fits = r .1 .fits; text = refl }) in
       (τ, i, c ∙ ap length (sym f), omega (arith, c, ap length f), o ∙ ap (λ x. x ++ drop (length x) out) (sym f))
 
-  pub bank-refused : answered (Refused n) e ≡ bankToText b out → (tagOfBank b ≡ refused n) × (e ≡ out)
+  pub bank-refused : (p : ℕ) → answered (Refused n p) e ≡ bankToText b out → (tagOfBank b ≡ refused n p) × (e ≡ out)
   unfolding bankToText
-  bank-refused h =
-      let (a, o) = was-refused textRoom out (tagOfBank b >>= λ τ. taken (textOf τ)) n e (firm textOf some-text (bankRules b) (Shown b) (tagOfBank b) (bank-reads b)) l h in
-      (tag-refused textOf some-text (tagOfBank b) n a, o)
+  bank-refused p h =
+      let (a, o) = was-refused textRoom out (tagOfBank b >>= λ τ. taken (textOf τ)) n e (firm textOf some-text (bankRules b) (Shown b) (tagOfBank b) (bank-reads b)) l p h in
+      (tag-refused textOf some-text (tagOfBank b) n p a, o)
 
   pub raw-written : answered (Written n) e ≡ rawLine b out
       → (rawOfBank b ≡ taken (rawText b)) × (n ≡ length (rawText b)) × (e ≡ rawText b ++ drop (length (rawText b)) out)
@@ -115,6 +115,6 @@ module _ (b out e : List ℕ) (n : ℕ) (l : textRoom ≤ length out) where
       let f : w ≡ rawText b = (rw a at (raw-reads b)) .1 .0 in
       (a ∙ ap taken f, c ∙ ap length f, o ∙ ap (λ x. x ++ drop (length x) out) f)
 
-  pub raw-refused : answered (Refused n) e ≡ rawLine b out → (rawOfBank b ≡ refused n) × (e ≡ out)
+  pub raw-refused : (p : ℕ) → answered (Refused n p) e ≡ rawLine b out → (rawOfBank b ≡ refused n p) × (e ≡ out)
   unfolding rawLine
-  raw-refused h = was-refused textRoom out (rawOfBank b) n e (raw-firm b) l h
+  raw-refused p h = was-refused textRoom out (rawOfBank b) n e (raw-firm b) l p h

@@ -43,9 +43,9 @@ text-long : (τ : Tag) → 14 ≤ length (textOf τ)
 unfolding textOf start
 text-long τ = rw (length-append (label (τ .scheme))) (omega (arith, measured (τ .scheme)))
 
-text-number : (t : List ℕ) (n : ℕ) → First (textRules t) n → 0 < n → n ≤ 8
+text-number : (t : List ℕ) (n i : ℕ) → First (textRules t) n i → 0 < n → n ≤ 8
 unfolding textRules
-text-number t n f p = first-between 2 8 (textRules t) n (omega arith) p f .1
+text-number t n i f p = first-between 2 8 (textRules t) n i (omega arith) p f .1
 
 text-short : (t : List ℕ) → Short (length t) (ofText (tagOfText t))
 text-short t = go (tagOfText t) (tag-reads t)
@@ -58,7 +58,7 @@ text-short t = go (tagOfText t) (tag-reads t)
         let u = text-long τ in
         let e = ap length (h .1 .text) in
         (omega arith, omega arith)
-    go (refused n) h = number-short n (length t) (omega (arith, text-number t n (h .0) (h .1)))
+    go (refused n i) h = number-short n (length t) (omega (arith, text-number t n i (h .0) (h .1)))
 
 -- To a bank: its line has two digits a byte.
 afi-length : (t : Bool) (a : ℕ) → length (afiText t a) ≤ 4
@@ -83,16 +83,16 @@ module _ (b : List ℕ) where
       let v : ¬ (length b < 2 + 2 * wordCount b) = λ h. x (inr h) in
       (omega arith, omega arith)
 
-  refused-short : (n : ℕ) → 0 < n → First (bankRules b) n → Short (2 * length b) (shown n (screen [] (rawText b) n))
+  refused-short : (n i : ℕ) → 0 < n → First (bankRules b) n i → Short (2 * length b) (shown n (screen [] (rawText b) n))
   unfolding rawRules bankRules
-  refused-short n p (inl (_, e)) = rw (without-raw b n p (omega arith)) (number-short n (2 * length b) (omega arith))
-  refused-short n p (inr (x, inl (_, e))) =
+  refused-short n i p (inl (_, e, _)) = rw (without-raw b n p (omega arith)) (number-short n (2 * length b) (omega arith))
+  refused-short n i p (inr (x, inl (_, e, _))) =
       let d = decimal-long n in
       let k = size-le 10 (lit< tt) n 2 (lit< tt) (omega arith) in
       let c = there x in
       rw (without-raw b n p (omega arith)) (omega arith, omega arith)
-  refused-short n p (inr (x, inr (y, f))) =
-      let (l, u) = later b n p (inr (x, inr (y, f))) (x, (y, tt)) in
+  refused-short n i p (inr (x, inr (y, f))) =
+      let (l, u) = later b n i p (inr (x, inr (y, f))) (x, (y, tt)) in
       let c = there x in
       let w : ¬ (wordCount b ≡ 0) = y in
       let two = two-digits n l u in
@@ -111,7 +111,7 @@ module _ (b : List ℕ) where
           let c = h .1 .count in
           let k = h .1 .long in
           (omega arith, omega arith)
-      go (refused n) h = refused-short n (h .1) (h .0)
+      go (refused n i) h = refused-short n i (h .1) (h .0)
 
 -- To any line.
 hex-short : (l : List ℕ) → Short (length l) (bankReply (bankIn l))

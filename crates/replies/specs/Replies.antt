@@ -1,6 +1,7 @@
 -- The reply to one line: `B`, `T`, `R`, `N` or `X`.
 use Prim.Native.Nat.{ℕ}
 use Prim.Native.Char.{code}
+use mathlib.Core.Path.{_≡_}
 use mathlib.Core.List.{List, [], _∷_, _++_}
 use mathlib.Core.Option.{Option, none, some}
 use mathlib.Core.Bool.{cond}
@@ -49,15 +50,19 @@ abbrev pub shown : ℕ → List ℕ → List ℕ
 shown n [] = replyN n
 shown n (x ∷ xs) = replyR n (x ∷ xs)
 
--- to a text, by what its tag is or the number that refuses it
+-- to a text, by what its tag is or the number that refuses it; no place is told
 abbrev pub ofText : Answer Tag → List ℕ
 ofText (taken τ) = replyB (bankOf τ)
-ofText (refused n) = replyN n
+ofText (refused n p) = replyN n
 
 -- to a bank, in the same way
 abbrev pub ofBank : List ℕ → Answer Tag → List ℕ
 ofBank b (taken τ) = replyT (textOf τ)
-ofBank b (refused n) = shown n (screen [] (rawText b) n)
+ofBank b (refused n p) = shown n (screen [] (rawText b) n)
+
+-- a bank is refused with n, at whatever place
+abbrev pub RefusedWith : List ℕ → ℕ → Type 0
+RefusedWith b n = (p : ℕ) × (tagOfBank b ≡ refused n p)
 
 -- a line that begins `urn:` has at most so many characters
 abbrev pub mostCharacters : ℕ

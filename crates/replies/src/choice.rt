@@ -11,10 +11,9 @@ use codec::TEXT_ROOM;
 ghost use mathlib.Core.Path.{_≡_};
 ghost use Prim.Native.Nat.{_≤_};
 ghost use lib.ListN.{length};
-ghost use Rattle.rules.specs.Answers.{refused};
 ghost use Rattle.rules.specs.BankNumbers.{tagOfBank};
 ghost use Rattle.replies.specs.Hex.{bankIn};
-ghost use Rattle.replies.specs.Replies.{ofBank, textReply, bankReply, replyOf};
+ghost use Rattle.replies.specs.Replies.{RefusedWith, ofBank, textReply, bankReply, replyOf};
 ghost use Rattle.replies.specs.Writing.{Wrote, replyRoom};
 
 // A line that begins `urn:` has at most so many characters.
@@ -37,14 +36,14 @@ fn text_reply(line: &[u8], out: &mut [u8]) -> usize
     let mut bank = [0u8; BANK_ROOM];
     match codec::text_to_bank(line, &mut bank) {
         Answer::Written(n) => put_bank(&bank[..n], out),
-        Answer::Refused(number) => put_number(b'N', number, out),
+        Answer::Refused(number, _) => put_number(b'N', number, out),
     }
 }
 
 // The reply to a bank that is refused with `number`. If its raw line is refused too, there is nothing to show; if not, the number has two digits.
 fn refused_reply(bank: &[u8], number: u8, out: &mut [u8]) -> usize
-    requires { ⌜ (tagOfBank (now bank) ≡ refused number) × (replyRoom ≤ length (now out)) ⌝ }
-    ensures { λ r. ⌜ Wrote (ofBank (now (bank .entry)) (refused number)) (now (out .entry)) r (now (out .exit)) ⌝ }
+    requires { ⌜ RefusedWith (now bank) number × (replyRoom ≤ length (now out)) ⌝ }
+    ensures { λ r. ⌜ Wrote (ofBank (now (bank .entry)) (tagOfBank (now (bank .entry)))) (now (out .entry)) r (now (out .exit)) ⌝ }
 {
     match codec::raw_line(bank, &mut out[AFTER_NUMBER..]) {
         Answer::Written(n) => {
@@ -52,7 +51,7 @@ fn refused_reply(bank: &[u8], number: u8, out: &mut [u8]) -> usize
             out[end] = b' ';
             n + AFTER_NUMBER
         }
-        Answer::Refused(_) => put_number(b'N', number, out),
+        Answer::Refused(_, _) => put_number(b'N', number, out),
     }
 }
 
@@ -67,7 +66,7 @@ fn bank_reply(bank: &[u8], out: &mut [u8]) -> usize
             out[1] = b' ';
             n + AFTER_LETTER
         }
-        Answer::Refused(number) => refused_reply(bank, number, out),
+        Answer::Refused(number, _) => refused_reply(bank, number, out),
     }
 }
 

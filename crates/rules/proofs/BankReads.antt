@@ -1,5 +1,5 @@
 -- A bank is refused by the first rule that applies; taken, it is the bank of its tag.
-use Prim.Native.Nat.{ℕ, _+_, _-_, _*_, _^_, _≤_, _<_}
+use Prim.Native.Nat.{ℕ, zero, suc, _+_, _-_, _*_, _^_, _≤_, _<_}
 use mathlib.Core.Path.{_≡_, refl, sym, _∙_, ap}
 use mathlib.Core.Logic.{_⊎_, inl, inr, _↔_, Iff·rfl, Iff·trans}
 use mathlib.Core.List.{List, [], _∷_, _++_}
@@ -20,14 +20,14 @@ use Rattle.rules.specs.declared.Last.the-variants.{Integer, String, Nume
 use Rattle.rules.specs.declared.Body.the-variants.{Then, Zeros, E}
 use Rattle.rules.specs.declared.Parts.{Parts}
 use Rattle.rules.specs.declared.Parts.the-variants.{F, Integers}
-use Rattle.rules.specs.Schemes.{schemes, about, words, zeroBits}
+use Rattle.rules.specs.Schemes.{schemes, about, words, zeroBits, prefixBits}
 use Rattle.rules.specs.Grammar.{layout, Fits}
 use Rattle.rules.specs.Coding.{binary, coded, at, wordCount, bankSize}
-use Rattle.rules.specs.BankNumbers.{allZero, headed, codeIn, fieldsIn, wordsIn, controlIn, tagOfBank}
+use Rattle.rules.specs.BankNumbers.{allZero, zerosBefore, headed, codeIn, fieldsIn, wordsIn, controlIn, tagOfBank}
 use Rattle.rules.specs.Raw.{rawText, rawOfBank}
-use Rattle.rules.specs.Conditions.{Rule, rule, OfBank, OneAfter, NoRow, LargePrefix, LargeReference, WrongLast, rawRules, bankRules}
-use Rattle.rules.proofs.Tests.{both, and, eq→eqb, apart, all-at, not-all}
-use Rattle.rules.proofs.Answers.{Gives, Decides, decided, Settled, Reads, settled-demand, settled-given, settled-as, step, check, reads-map, reads-bind, done, same, reads-covers}
+use Rattle.rules.specs.Conditions.{Rule, rule, OfBank, rowIn, zerosFrom, MustBeZero, OneAfter, FirstOne, NoRow, LargePrefix, LargeReference, WrongLast, LastAt, rawRules, bankRules}
+use Rattle.rules.proofs.Tests.{both, and, eq→eqb, apart, all-at}
+use Rattle.rules.proofs.Answers.{Gives, Decides, decided, Settled, Reads, settled-demand, settled-at, settled-given, settled-as, step, check, reads-map, reads-bind, done, same, reads-covers}
 use Rattle.rules.proofs.Codes.{content, sizes, headed-of}
 use Rattle.rules.proofs.Banks.{Shown, control-is, code-is}
 use Rattle.rules.proofs.CodeReads.{take-inside, parts-read}
@@ -60,18 +60,18 @@ not-short : (b : List ℕ) → T (enough b) → ¬ (Short b)
 not-short b h (inl k) = omega (arith, enough-is b h)
 not-short b h (inr k) = omega (arith, enough-is b h)
 
-settled-9 : (b : List ℕ) → Settled 9 (Short b) (λ _. T (enough b)) (demand (enough b) 9)
-settled-9 b = settled-demand 9 (Short b) (enough b) (short-is b) (not-short b)
+settled-9 : (b : List ℕ) → Settled 9 (Short b) (_≡ length b) (λ _. T (enough b)) (demand (enough b) 9 (length b))
+settled-9 b = settled-demand 9 (length b) (Short b) (enough b) (short-is b) (not-short b)
 
-settled-10 : (W : ℕ) → Settled 10 (W ≡ 0) (λ _. T (ltb 0 W)) (demand (ltb 0 W) 10)
-settled-10 W = settled-demand 10 (W ≡ 0) (ltb 0 W) (λ t. omega (arith, nltb→le 0 W t)) (λ t e. omega (arith, ltb→lt 0 W t))
+settled-10 : (W : ℕ) → Settled 10 (W ≡ 0) (_≡ 0x10) (λ _. T (ltb 0 W)) (demand (ltb 0 W) 10 0x10)
+settled-10 W = settled-demand 10 0x10 (W ≡ 0) (ltb 0 W) (λ t. omega (arith, nltb→le 0 W t)) (λ t e. omega (arith, ltb→lt 0 W t))
 
-settled-11 : (t : ℕ) → t < 2 → Settled 11 (t ≡ 1) (λ _. T (eqb t 0)) (demand (eqb t 0) 11)
-settled-11 t l = settled-demand 11 (t ≡ 1) (eqb t 0) (λ h. omega (arith, apart t 0 h)) (λ h e. omega (arith, eqb→eq t 0 h))
+settled-11 : (t : ℕ) → t < 2 → Settled 11 (t ≡ 1) (_≡ 0x17) (λ _. T (eqb t 0)) (demand (eqb t 0) 11 0x17)
+settled-11 t l = settled-demand 11 0x17 (t ≡ 1) (eqb t 0) (λ h. omega (arith, apart t 0 h)) (λ h e. omega (arith, eqb→eq t 0 h))
 
 -- two bits are 0 exactly if each of them is
-settled-12 : (x y u v : ℕ) → u ≡ x * 2 + y → Settled 12 (¬ ((x ≡ 0) × (y ≡ 0) × (v ≡ 0))) (λ _. T (eqb u 0 && eqb v 0)) (demand (eqb u 0 && eqb v 0) 12)
-settled-12 x y u v e = settled-demand 12 (¬ ((x ≡ 0) × (y ≡ 0) × (v ≡ 0))) (eqb u 0 && eqb v 0) some-one all-zero
+settled-12 : (x y u v : ℕ) → u ≡ x * 2 + y → Settled 12 (¬ ((x ≡ 0) × (y ≡ 0) × (v ≡ 0))) (_≡ 0x15) (λ _. T (eqb u 0 && eqb v 0)) (demand (eqb u 0 && eqb v 0) 12 0x15)
+settled-12 x y u v e = settled-demand 12 0x15 (¬ ((x ≡ 0) × (y ≡ 0) × (v ≡ 0))) (eqb u 0 && eqb v 0) some-one all-zero
   where
     some-one : T (not (eqb u 0 && eqb v 0)) → ¬ ((x ≡ 0) × (y ≡ 0) × (v ≡ 0))
     some-one h (p, q, r) = T-not (eqb u 0 && eqb v 0) h (and (eqb u 0) (eqb v 0) (eq→eqb u 0 (omega arith)) (eq→eqb v 0 r))
@@ -84,6 +84,29 @@ settled-12 x y u v e = settled-demand 12 (¬ ((x ≡ 0) × (y ≡ 0) × (v ≡ 0
 
 control-bits : (b : List ℕ) → 2 ≤ length b → at b 0x15 2 ≡ at b 0x15 1 * 2 + at b 0x16 1
 control-bits b h = field-more 2 (spread 2 8 b) 5 1 1 (omega (arith, length-spread 2 8 b))
+
+-- Of numbers that are not all zero, the one behind the zeros is none, and those before it are.
+abbrev ZerosBefore : List ℕ → ℕ → Type 0
+ZerosBefore l z = (z < length l) × (¬ (getD l z 0 ≡ 0)) × ((i : ℕ) → i < z → getD l i 0 ≡ 0)
+
+zeros-before : (l : List ℕ) → T (not (allZero l)) → ZerosBefore l (zerosBefore l)
+zeros-before [] h = absurd h
+zeros-before (x ∷ xs) h = go (eqb x 0) refl (zeros-before xs) h
+  where
+    go : (t : Bool) → eqb x 0 ≡ t → (T (not (allZero xs)) → ZerosBefore xs (zerosBefore xs)) → T (not (t && allZero xs)) → ZerosBefore (x ∷ xs) (cond t (suc (zerosBefore xs)) 0)
+    go true e ih h =
+        let (l, k, z) = ih h in
+        let first : x ≡ 0 = eqb→eq x 0 (rw e tt) in
+        (omega arith, k, earlier first z)
+      where
+        earlier : x ≡ 0 → ((i : ℕ) → i < zerosBefore xs → getD xs i 0 ≡ 0) → (i : ℕ) → i < suc (zerosBefore xs) → getD (x ∷ xs) i 0 ≡ 0
+        earlier first z zero l = first
+        earlier first z (suc i) l = z i (omega arith)
+    go false e ih h = (omega arith, (λ q. rw e at (eq→eqb x 0 q)), λ i l. absurd (omega arith))
+
+-- the address of the first one bit behind the first n of the code
+abbrev one-at : List ℕ → ℕ → ℕ
+one-at b n = 0x20 + (n + zerosBefore (drop n (codeIn b)))
 
 -- A bank that has its words: the code is its bits from 20h on.
 module _ (b : List ℕ) (long : bankSize (wordCount b) ≤ length b) where
@@ -107,15 +130,26 @@ module _ (b : List ℕ) (long : bankSize (wordCount b) ≤ length b) where
   tail-seen : (n i : ℕ) → i < length (drop n (codeIn b)) → at b (0x20 + (n + i)) 1 ≡ getD (drop n (codeIn b)) i 0
   tail-seen n i l = bit-seen (n + i) (omega (arith, length-drop n (codeIn b), code-length)) ∙ sym (getD-drop n (codeIn b) i 0)
 
-  one-after : (n : ℕ) → T (not (allZero (drop n (codeIn b)))) → OneAfter b n
-  one-after n h =
+  first-one : (n : ℕ) → T (not (allZero (drop n (codeIn b)))) → FirstOne b n (one-at b n)
+  first-one n h =
       let c = drop n (codeIn b) in
-      let (i, l, k) = not-all (λ x. eqb x 0) c h in
+      let i = zerosBefore c in
+      let (l, k, z) = zeros-before c h in
       let bit = digits-at 2 c i (digits-drop 2 n (codeIn b) code-bits) l in
-      (0x20 + (n + i), omega arith, omega (arith, length-drop n (codeIn b), code-length), omega (arith, tail-seen n i l, apart (getD c i 0) 0 k))
+      let m = length-drop n (codeIn b) in
+      ((omega arith, omega (arith, m, code-length)), omega (arith, tail-seen n i l, k), before z)
+    where
+      before : ((i : ℕ) → i < zerosBefore (drop n (codeIn b)) → getD (drop n (codeIn b)) i 0 ≡ 0) → (a : ℕ) → MustBeZero b n a → a < one-at b n → at b a 1 ≡ 0
+      before z a must l =
+          let i = a - (0x20 + n) in
+          let q : a ≡ 0x20 + (n + i) = omega (arith, must .0) in
+          rw q (tail-seen n i (omega (arith, must, length-drop n (codeIn b), code-length)) ∙ z i (omega (arith, must .0, l)))
+
+  one-after : (n : ℕ) → T (not (allZero (drop n (codeIn b)))) → OneAfter b n × FirstOne b n (one-at b n)
+  one-after n h = let f = first-one n h in ((one-at b n, f .0, f .1), f)
 
   none-after : (n : ℕ) → T (allZero (drop n (codeIn b))) → ¬ (OneAfter b n)
-  none-after n h (a, l, m, e) =
+  none-after n h (a, (l, m), e) =
       let c = drop n (codeIn b) in
       let i = a - (0x20 + n) in
       let k : i < length c = omega (arith, length-drop n (codeIn b), code-length) in
@@ -143,7 +177,7 @@ header-decided b h e =
     decided (Headed b) (λ s. at b 0x20 8 ≡ about s .header) (headed h schemes) (headed-is (at b 0x20 8) h e schemes) (λ s r. (s, r)) λ r.
     (r .0, rw (sym e ∙ r .1) (headed-of (r .0)))
 
-of-bank : (b : List ℕ) (s : Scheme) → at b 0x20 8 ≡ about s .header → (Q : Scheme → Type 0) → Q s ↔ OfBank b Q
+pub of-bank : (b : List ℕ) (s : Scheme) → at b 0x20 8 ≡ about s .header → (Q : Scheme → Type 0) → Q s ↔ OfBank b Q
 of-bank b s e Q = (λ q. (s, e, q), back)
   where
     back : OfBank b Q → Q s
@@ -154,35 +188,36 @@ of-bank b s e Q = (λ q. (s, e, q), back)
 -- the rules of the code, once its scheme is known
 abbrev schemeRules : List ℕ → List Rule
 schemeRules b =
-    rule 16 (OfBank b λ s. NoRow b (about s .parts)) ∷
-    rule 17 (OfBank b λ s. LargePrefix b (about s .parts)) ∷
-    rule 18 (OfBank b λ s. LargeReference b (about s .parts)) ∷
-    rule 19 (OfBank b λ s. WrongLast b (about s .bits) (about s .parts)) ∷ []
+    rule 16 (OfBank b λ s. NoRow b (about s .parts)) (_≡ 0x2B) ∷
+    rule 17 (OfBank b λ s. LargePrefix b (about s .parts)) (_≡ 0x2E) ∷
+    rule 18 (OfBank b λ s. LargeReference b (about s .parts)) (_≡ 0x2E + prefixBits (rowIn b)) ∷
+    rule 19 (OfBank b λ s. WrongLast b (about s .bits) (about s .parts)) (λ p. OfBank b λ s. LastAt (about s .bits) (about s .parts) p) ∷ []
 
 -- a last part ends where the parts do
-last-alike : (b : List ℕ) (m n : ℕ) (p : Parts) → m - zeroBits p ≡ n → WrongLast b n p ↔ WrongLast b m p
-last-alike b m n (F (Then t (Integer k))) e = Iff·rfl
-last-alike b m n (F (Then t (String k))) e = let q : n ≡ m = omega arith in rw q Iff·rfl
-last-alike b m n (F (Then t (Numeric k l))) e = let q : n ≡ m = omega arith in rw q Iff·rfl
-last-alike b m n (F (Zeros t z)) e = Iff·rfl
-last-alike b m n (F E) e = Iff·rfl
-last-alike b m n (Integers x y z) e = Iff·rfl
+last-alike : (b : List ℕ) (m n : ℕ) (p : Parts) → m - zeroBits p ≡ n → (WrongLast b n p ↔ WrongLast b m p) × ((a : ℕ) → LastAt n p a → LastAt m p a)
+last-alike b m n (F (Then t (Integer k))) e = (Iff·rfl, λ a h. h)
+last-alike b m n (F (Then t (String k))) e = let q : n ≡ m = omega arith in rw q (Iff·rfl, λ a h. h)
+last-alike b m n (F (Then t (Numeric k l))) e = let q : n ≡ m = omega arith in rw q (Iff·rfl, λ a h. h)
+last-alike b m n (F (Zeros t z)) e = (Iff·rfl, λ a h. h)
+last-alike b m n (F E) e = (Iff·rfl, λ a h. h)
+last-alike b m n (Integers x y z) e = (Iff·rfl, λ a h. h)
 
 module _ (b : List ℕ) (s : Scheme) (long : bankSize (wordCount b) ≤ length b) (count : wordCount b ≡ words s) (e : at b 0x20 8 ≡ about s .header) where
   abbrev PartsShown : List (List ℕ) → Type 0
   PartsShown ps = (z : List ℕ) × Fits (layout s) ps × (drop 8 (codeIn b) ≡ coded (layout s) ps ++ z)
 
-  scheme-reads : Reads (schemeRules b) PartsShown (fieldsIn (layout s) (drop 8 (codeIn b)))
+  scheme-reads : Reads (schemeRules b) PartsShown (fieldsIn 0x28 (layout s) (drop 8 (codeIn b)))
   scheme-reads =
       let n = content s in
       let of = of-bank b s e in
       let room : 8 + n ≤ 16 * wordCount b = omega (arith, sizes s .inside, sizes s .whole) in
       let r = parts-read b (drop 8 (codeIn b)) n (digits-drop 2 8 (codeIn b) (code-bits b long)) (rw length-drop (omega (arith, code-length b long))) (λ p w h. seen p w (omega arith)) (about s .parts) (sizes s .parts) in
-      reads-covers PartsShown (fieldsIn (layout s) (drop 8 (codeIn b)))
-      (same refl (of λ s. NoRow b (about s .parts))
-      (same refl (of λ s. LargePrefix b (about s .parts))
-      (same refl (of λ s. LargeReference b (about s .parts))
-      (same refl (Iff·trans (last-alike b (about s .bits) (8 + n) (about s .parts) (sizes s .whole)) (of λ s. WrongLast b (about s .bits) (about s .parts))) done))))
+      let (wrong, place) = last-alike b (about s .bits) (8 + n) (about s .parts) (sizes s .whole) in
+      reads-covers PartsShown (fieldsIn 0x28 (layout s) (drop 8 (codeIn b)))
+      (same refl (of λ s. NoRow b (about s .parts)) (λ p h. h)
+      (same refl (of λ s. LargePrefix b (about s .parts)) (λ p h. h)
+      (same refl (of λ s. LargeReference b (about s .parts)) (λ p h. h)
+      (same refl (Iff·trans wrong (of λ s. WrongLast b (about s .bits) (about s .parts))) (λ p h. (s, e, place p h)) done))))
       (r .reads)
     where
       seen : (p w : ℕ) → 8 + p + w ≤ 16 * wordCount b → at b (0x28 + p) w ≡ value 2 (take w (drop p (drop 8 (codeIn b))))
@@ -193,21 +228,23 @@ module _ (b : List ℕ) (s : Scheme) (long : bankSize (wordCount b) ≤ length b
 -- Rules 14 to 19, once the header is a scheme's.
 abbrev headerRules : List ℕ → List Rule
 headerRules b =
-    rule 14 (OfBank b λ s. ¬ (wordCount b ≡ words s)) ∷
-    rule 15 (OfBank b λ s. OneAfter b (about s .bits - zeroBits (about s .parts))) ∷ schemeRules b
+    rule 14 (OfBank b λ s. ¬ (wordCount b ≡ words s)) (_≡ 0x10) ∷
+    rule 15 (OfBank b λ s. OneAfter b (zerosFrom s)) (λ p. OfBank b λ s. FirstOne b (zerosFrom s) p) ∷ schemeRules b
 
 header-reads : (b : List ℕ) (s : Scheme) → bankSize (wordCount b) ≤ length b → take 16 (spread 2 8 b) ≡ binary 5 (wordCount b) ++ replicate 11 0 → at b 0x20 8 ≡ about s .header
-    → Reads (headerRules b) (Shown b) (demand (eqb (wordCount b) (words s)) 14 >> (demand (allZero (drop (about s .bits - zeroBits (about s .parts)) (codeIn b))) 15 >> (fieldsIn (layout s) (drop 8 (codeIn b)) >>= λ ps. taken (record { scheme = s; parts = ps }))))
+    → Reads (headerRules b) (Shown b) (demand (eqb (wordCount b) (words s)) 14 0x10 >> (demand (allZero (drop (zerosFrom s) (codeIn b))) 15 (one-at b (zerosFrom s)) >> (fieldsIn 0x28 (layout s) (drop 8 (codeIn b)) >>= λ ps. taken (record { scheme = s; parts = ps }))))
 header-reads b s long control e =
     let W = wordCount b in
     let c = codeIn b in
-    let m = about s .bits - zeroBits (about s .parts) in
-    check _ (Shown b) 14 _ (T (eqb W (words s))) (demand (eqb W (words s)) 14) _ (lit< tt)
-    (settled-as 14 (¬ (W ≡ words s)) _ _ (demand (eqb W (words s)) 14) (of-bank b s e λ s. ¬ (W ≡ words s)) (settled-demand 14 (¬ (W ≡ words s)) (eqb W (words s)) (apart W (words s)) (λ h f. f (eqb→eq W (words s) h)))) λ h.
+    let m = zerosFrom s in
+    let p = one-at b m in
+    check _ (Shown b) 14 _ (_≡ 0x10) (T (eqb W (words s))) (demand (eqb W (words s)) 14 0x10) _ (lit< tt)
+    (settled-as 14 (¬ (W ≡ words s)) _ (_≡ 0x10) _ (demand (eqb W (words s)) 14 0x10) (of-bank b s e λ s. ¬ (W ≡ words s)) (settled-demand 14 0x10 (¬ (W ≡ words s)) (eqb W (words s)) (apart W (words s)) (λ h f. f (eqb→eq W (words s) h)))) λ h.
     let count = eqb→eq W (words s) h in
-    check _ (Shown b) 15 _ (T (allZero (drop m c))) (demand (allZero (drop m c)) 15) _ (lit< tt)
-    (settled-as 15 (OneAfter b m) _ _ (demand (allZero (drop m c)) 15) (of-bank b s e λ s. OneAfter b (about s .bits - zeroBits (about s .parts))) (settled-demand 15 (OneAfter b m) (allZero (drop m c)) (one-after b long m) (none-after b long m))) λ z.
-    reads-map (schemeRules b) (PartsShown b s long count e) (Shown b) (λ ps. record { scheme = s; parts = ps }) (fieldsIn (layout s) (drop 8 c)) (scheme-reads b s long count e) λ ps i.
+    check _ (Shown b) 15 _ _ (T (allZero (drop m c))) (demand (allZero (drop m c)) 15 p) _ (lit< tt)
+    (settled-at 15 p (OfBank b λ s. OneAfter b (zerosFrom s)) (λ p. OfBank b λ s. FirstOne b (zerosFrom s) p) (allZero (drop m c))
+    (λ h. let (o, f) = one-after b long m h in ((s, e, o), (s, e, f))) (λ h o. none-after b long m h (of-bank b s e (λ s. OneAfter b (zerosFrom s)) .1 o))) λ z.
+    reads-map (schemeRules b) (PartsShown b s long count e) (Shown b) (λ ps. record { scheme = s; parts = ps }) (fieldsIn 0x28 (layout s) (drop 8 c)) (scheme-reads b s long count e) λ ps i.
     record {
       fits = i .1;
       count = count;
@@ -224,8 +261,8 @@ pub words-reads : (b : List ℕ) → Reads (rawRules b) (HasWords b) (wordsIn b)
 unfolding rawRules
 words-reads b =
     let W = wordCount b in
-    check (rule 10 (W ≡ 0) ∷ []) (HasWords b) 9 (Short b) (T (enough b)) (demand (enough b) 9) _ (lit< tt) (settled-9 b) λ h.
-    check [] (HasWords b) 10 (W ≡ 0) (T (ltb 0 W)) (demand (ltb 0 W) 10) (taken W) (lit< tt) (settled-10 W) λ w.
+    check (rule 10 (W ≡ 0) (_≡ 0x10) ∷ []) (HasWords b) 9 (Short b) (_≡ length b) (T (enough b)) (demand (enough b) 9 (length b)) _ (lit< tt) (settled-9 b) λ h.
+    check [] (HasWords b) 10 (W ≡ 0) (_≡ 0x10) (T (ltb 0 W)) (demand (ltb 0 W) 10 0x10) (taken W) (lit< tt) (settled-10 W) λ w.
     let (two, long) = enough-is b h in
     (tt, (refl, ltb→lt 0 W w, two, long))
 
@@ -245,18 +282,18 @@ pub record Clean (b : List ℕ) (W : ℕ) : Type 0 where
 abbrev controlRules : List ℕ → List Rule
 controlRules b =
     rawRules b ++
-    (rule 11 (at b 0x17 1 ≡ 1) ∷
-    rule 12 (¬ ((at b 0x15 1 ≡ 0) × (at b 0x16 1 ≡ 0) × (at b 0x18 8 ≡ 0))) ∷ [])
+    (rule 11 (at b 0x17 1 ≡ 1) (_≡ 0x17) ∷
+    rule 12 (¬ ((at b 0x15 1 ≡ 0) × (at b 0x16 1 ≡ 0) × (at b 0x18 8 ≡ 0))) (_≡ 0x15) ∷ [])
 
 pub control-reads : (b : List ℕ) → Reads (controlRules b) (Clean b) (controlIn b)
 control-reads b =
     let R = Clean b in
     reads-bind (rawRules b) _ (HasWords b) R (wordsIn b) _ (words-reads b) λ W (count, full, two, long).
     let t = at b 0x17 1 in
-    check _ R 11 (t ≡ 1) (T (eqb t 0)) (demand (eqb t 0) 11) _ (lit< tt) (settled-11 t (at-lt b 0x17 1)) λ toggle.
+    check _ R 11 (t ≡ 1) (_≡ 0x17) (T (eqb t 0)) (demand (eqb t 0) 11 0x17) _ (lit< tt) (settled-11 t (at-lt b 0x17 1)) λ toggle.
     let u = at b 0x15 2 in
     let v = at b 0x18 8 in
-    check [] R 12 _ (T (eqb u 0 && eqb v 0)) (demand (eqb u 0 && eqb v 0) 12) (taken W) (lit< tt) (settled-12 (at b 0x15 1) (at b 0x16 1) u v (control-bits b two)) λ z.
+    check [] R 12 _ (_≡ 0x15) (T (eqb u 0 && eqb v 0)) (demand (eqb u 0 && eqb v 0) 12 0x15) (taken W) (lit< tt) (settled-12 (at b 0x15 1) (at b 0x16 1) u v (control-bits b two)) λ z.
     let (x, y) = both (eqb u 0) (eqb v 0) z in
     (tt, record { count = count; some-words = full; two = two; long = long; toggle = eqb→eq t 0 toggle; control = eqb→eq u 0 x; attributes = eqb→eq v 0 y })
 
@@ -268,8 +305,8 @@ unfolding bankRules rawRules tagOfBank
 bank-reads b =
     reads-bind (controlRules b) _ (Clean b) (Shown b) (controlIn b) _ (control-reads b) λ W c.
     let h = value 2 (take 8 (codeIn b)) in
-    step (headerRules b) (Shown b) 13 (¬ (Headed b)) _ (given (headed h schemes) 13) _ (lit< tt)
-    (settled-given 13 (¬ (Headed b)) _ (headed h schemes) (header-decided b h (header-seen b (c .long) (c .some-words)))) λ s i.
+    step (headerRules b) (Shown b) 13 (¬ (Headed b)) (_≡ 0x20) _ (given (headed h schemes) 13 0x20) _ (lit< tt)
+    (settled-given 13 0x20 (¬ (Headed b)) _ (headed h schemes) (header-decided b h (header-seen b (c .long) (c .some-words)))) λ s i.
     rw (c .count) (header-reads b s (c .long) (control-is b (wordCount b) (c .two) refl (c .toggle) (c .control) (c .attributes)) i)
 
 -- The raw line is refused by 9 and 10 alone.

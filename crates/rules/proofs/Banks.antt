@@ -97,7 +97,7 @@ module _ (b : List ℕ) (s : Scheme) (ps : List (List ℕ)) (h : Fits (layout s)
         is-true (eqb w w) (eqb-refl w),
         is-true (allZero (drop (about s .bits - zeroBits (about s .parts)) (codeOf s ps))) fill-of,
         header-of .1,
-        content-of s h fill,
+        content-of s h 0x28 fill,
       )
 
 pub tag-of : (b : List ℕ) (τ : Tag) → TagBank b τ → tagOfBank b ≡ taken τ

@@ -94,10 +94,10 @@ pub coded-bits : {l : Layout} {ps : List (List ℕ)} → Fits l ps → Digits 2 
 coded-bits (one {f = f} {p = p} h) = part-bits f p
 coded-bits (more {f = f} {k = k} {p = p} {ps = ps} h i) = digits-append 2 (partBits f p) (coded (k p) ps) (part-bits f p) (coded-bits i)
 
-fields-of : {l : Layout} {ps : List (List ℕ)} → Fits l ps → (w : ℕ) → Takes l w → (z : List ℕ) → fieldsIn l (coded l ps ++ z) ≡ taken ps
-fields-of (one {f = f} {p = p} h) w t z = rw (field-of f p z (t .0) h)
-fields-of (more {f = f} {k = k} {p = p} {ps = ps} h i) w t z =
-    rw (append-assoc (partBits f p) (coded (k p) ps) z, field-of f p (coded (k p) ps ++ z) (t .0) h, fields-of i (w - width f p) (t .1 p h .1) z)
+fields-of : {l : Layout} {ps : List (List ℕ)} → Fits l ps → (w : ℕ) → Takes l w → (a : ℕ) (z : List ℕ) → fieldsIn a l (coded l ps ++ z) ≡ taken ps
+fields-of (one {f = f} {p = p} h) w t a z = rw (field-of a f p z (t .0) h)
+fields-of (more {f = f} {k = k} {p = p} {ps = ps} h i) w t a z =
+    rw (append-assoc (partBits f p) (coded (k p) ps) z, field-of a f p (coded (k p) ps ++ z) (t .0) h, fields-of i (w - width f p) (t .1 p h .1) (a + width f p) z)
 
 -- The parts of a scheme.
 end-takes : (l : Last) (w : ℕ) → Ends l w → Takes (end last (lastForm l)) w
@@ -135,5 +135,5 @@ takes (Integers a b c) n h = (tt, λ p q. (omega arith, (tt, λ p q. (omega arit
 pub content-length : (s : Scheme) {ps : List (List ℕ)} → Fits (layout s) ps → length (coded (layout s) ps) ≡ content s
 content-length s h = coded-length h (content s) (takes (about s .parts) (content s) (sizes s .parts))
 
-pub content-of : (s : Scheme) {ps : List (List ℕ)} → Fits (layout s) ps → (z : List ℕ) → fieldsIn (layout s) (coded (layout s) ps ++ z) ≡ taken ps
-content-of s h z = fields-of h (content s) (takes (about s .parts) (content s) (sizes s .parts)) z
+pub content-of : (s : Scheme) {ps : List (List ℕ)} → Fits (layout s) ps → (a : ℕ) (z : List ℕ) → fieldsIn a (layout s) (coded (layout s) ps ++ z) ≡ taken ps
+content-of s h a z = fields-of h (content s) (takes (about s .parts) (content s) (sizes s .parts)) a z

@@ -98,36 +98,37 @@ part-bits (atMost b n) ds = digits-numeral 2 b (value 10 ds) (lit< tt)
 part-bits (numeric b n) ds = digits-numeral 2 b _ (lit< tt)
 
 -- What is right is read.
-pub field-of : (f : Form) (p z : List ℕ) → Roomy f → Fit f p → fieldIn f (partBits f p ++ z) ≡ taken (record { symbols = p; rest = z })
-field-of (digits b n) ds z r h = decimal-of 18 b n ds z (all-digits ds (h .symbols)) (eqb→eq (length ds) n (h .shape)) r
-field-of (integer b) ds z r h =
+pub field-of : (a : ℕ) (f : Form) (p z : List ℕ) → Roomy f → Fit f p → fieldIn a f (partBits f p ++ z) ≡ taken (record { symbols = p; next = a + width f p; rest = z })
+field-of a (digits b n) ds z r h = decimal-of 18 a b n ds z (all-digits ds (h .symbols)) (eqb→eq (length ds) n (h .shape)) r
+field-of a (integer b) ds z r h =
     let v = value 10 ds in
-    let (a, d) = read b v z (ltb→lt v (2 ^ b) (h .size)) in
-    rw (a, d, whole-of ds (all-digits ds (h .symbols)) (h .shape))
-field-of (atMost b n) ds z r h =
+    let (u, d) = read b v z (ltb→lt v (2 ^ b) (h .size)) in
+    rw (u, d, whole-of ds (all-digits ds (h .symbols)) (h .shape))
+field-of a (atMost b n) ds z r h =
     let v = value 10 ds in
     let e = all-digits ds (h .symbols) in
     let (p, l) = both (plainNumber ds) (leb (length ds) n) (h .shape) in
     let m = leb→le (length ds) n l in
     let k : 10 ^ length ds ≤ 10 ^ n = pow-le-pow-right (lit< tt) m in
     let s : v < 10 ^ n = omega (arith, value-lt 10 ds e) in
-    let (a, d) = read b v z (omega (arith, r .0)) in
-    rw (a, d, is-true (ltb v (10 ^ n)) (lt→ltb v (10 ^ n) s), whole-of ds e p)
-field-of (numeric b n) ds z r h =
+    let (u, d) = read b v z (omega (arith, r .0)) in
+    rw (u, d, is-true (ltb v (10 ^ n)) (lt→ltb v (10 ^ n) s), whole-of ds e p)
+field-of a (numeric b n) ds z r h =
     let e = all-digits ds (h .symbols) in
-    let (a, d) = read b (value 10 (1 ∷ ds)) z (numeric-fits b n ds e (leb→le (length ds) n (h .size)) r) in
-    rw (a, d, numeric-of n ds e (h .shape) (h .size))
-field-of company ds z r h =
+    let (u, d) = read b (value 10 (1 ∷ ds)) z (numeric-fits b n ds e (leb→le (length ds) n (h .size)) r) in
+    rw (u, d, numeric-of n ds e (h .shape) (h .size))
+field-of a company ds z r h =
     let n = length ds in
     let (x, y) = both (leb 6 n) (leb n 12) (h .shape) in
     let (l, e) = row-picked n (leb→le 6 n x) (leb→le n 12 y) in
     let P = partition n in
     let b = prefixBits (rowOf n) in
     let t = binary b (value 10 ds) ++ z in
-    let (a, d) = read 3 P t (omega arith) in
-    rw (append-assoc (binary 3 P) (binary b (value 10 ds)) z, a, d, is-true (not (eqb P 7)) (not-T (eqb P 7) λ q. omega (arith, eqb→eq P 7 q)))
-    (decimal-of 17 b (prefixDigits (rowOf n)) ds z (all-digits ds (h .symbols)) (sym e) (row-fair P l .roomy))
-field-of (string b) cs z r h =
+    let (u, d) = read 3 P t (omega arith) in
+    let q : a + (3 + b) ≡ a + 3 + b = omega arith in
+    rw (append-assoc (binary 3 P) (binary b (value 10 ds)) z, u, d, is-true (not (eqb P 7)) (not-T (eqb P 7) λ q. omega (arith, eqb→eq P 7 q)), q)
+    (decimal-of 17 (a + 3) b (prefixDigits (rowOf n)) ds z (all-digits ds (h .symbols)) (sym e) (row-fair P l .roomy))
+field-of a (string b) cs z r h =
     let (x, y) = characters-are cs (h .symbols) in
     let s = leb→le (length cs) (b / 7) (h .size) in
     let k = b / 7 - length cs in

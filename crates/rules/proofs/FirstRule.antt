@@ -1,23 +1,24 @@
--- The number given is that of the first rule of document 01's list that applies, and 0 exactly where none does.
+-- The number and the place given are those of the first rule of document 01's list that applies, and 0 exactly where none does.
 use Prim.Native.Nat.{ℕ}
 use mathlib.Core.Path.{_≡_}
 use mathlib.Core.Logic.{_↔_}
 use mathlib.Core.List.{List}
-use Rattle.rules.specs.Answers.{numberOf}
-use Rattle.rules.specs.TextNumbers.{textNumber, tagOfText}
-use Rattle.rules.specs.BankNumbers.{bankNumber, tagOfBank}
+use Rattle.rules.specs.Answers.{Answer, numberOf, placeOf}
+use Rattle.rules.specs.TextNumbers.{textNumber, textPlace, tagOfText}
+use Rattle.rules.specs.BankNumbers.{bankNumber, bankPlace, tagOfBank}
 use Rattle.rules.specs.Conditions.{Rule, First, textRules, bankRules}
-use Rattle.rules.proofs.Answers.{one-first, first-of}
+use Rattle.rules.proofs.Answers.{Reads, OnePlace, one-first, first-of}
 use Rattle.rules.proofs.TextReads.{tag-reads}
 use Rattle.rules.proofs.BankReads.{bank-reads}
+use Rattle.rules.proofs.OnePlace.{one-place-of-text, one-place-of-bank}
 
-exactly : (rs : List Rule) (m n : ℕ) → First rs m → (m ≡ n) ↔ First rs n
-exactly rs m n h = (λ e. rw e at h, λ k. one-first rs m n h k)
+exactly : {X : Type 0} (rs : List Rule) (Right : X → Type 0) (a : Answer X) → OnePlace rs → Reads rs Right a → (n p : ℕ) → ((numberOf a ≡ n) × (placeOf a ≡ p)) ↔ First rs n p
+exactly rs Right a o h n p = let f = first-of rs Right a h in (λ e. rw (← e .0, ← e .1) f, λ k. one-first rs o (numberOf a) (placeOf a) n p f k)
 
-pub first-rule-of-text : (t : List ℕ) (n : ℕ) → (textNumber t ≡ n) ↔ First (textRules t) n
-unfolding textNumber
-first-rule-of-text t n = exactly (textRules t) (numberOf (tagOfText t)) n (first-of (textRules t) _ (tagOfText t) (tag-reads t))
+pub first-rule-of-text : (t : List ℕ) (n p : ℕ) → ((textNumber t ≡ n) × (textPlace t ≡ p)) ↔ First (textRules t) n p
+unfolding textNumber textPlace
+first-rule-of-text t n p = exactly (textRules t) _ (tagOfText t) (one-place-of-text t) (tag-reads t) n p
 
-pub first-rule-of-bank : (b : List ℕ) (n : ℕ) → (bankNumber b ≡ n) ↔ First (bankRules b) n
-unfolding bankNumber
-first-rule-of-bank b n = exactly (bankRules b) (numberOf (tagOfBank b)) n (first-of (bankRules b) _ (tagOfBank b) (bank-reads b))
+pub first-rule-of-bank : (b : List ℕ) (n p : ℕ) → ((bankNumber b ≡ n) × (bankPlace b ≡ p)) ↔ First (bankRules b) n p
+unfolding bankNumber bankPlace
+first-rule-of-bank b n p = exactly (bankRules b) _ (tagOfBank b) (one-place-of-bank b) (bank-reads b) n p

@@ -12,7 +12,8 @@ use Rattle.rules.specs.Bytes.{all}
 use Rattle.rules.specs.declared.Table.{Table}
 use Rattle.rules.specs.Schemes.{Form, company, digits, integer, string, atMost, numeric, counted}
 use Rattle.rules.specs.Grammar.{symbol, plainNumber, shaped, sized, spelled}
-use Rattle.rules.specs.TextNumbers.{symbolsIn, kept, formed}
+use Rattle.rules.specs.Answers.{kept}
+use Rattle.rules.specs.TextNumbers.{symbolsIn, formed}
 use Rattle.rules.specs.Conditions.{Decimal, Whole, zero-alone, leading, Formed, TooLarge}
 use Rattle.rules.proofs.Tests.{is-true, both, and}
 use Rattle.rules.proofs.Answers.{Gives, Decides}

@@ -10,13 +10,13 @@ use lib.Dec.{T, ltb, eqb, ltb→lt, lt→ltb, eqb→eq, T-not}
 use lib.ListN.{length, getD, replicate, length-append, List·getD-append}
 use lib.Seq.{getD-append-add}
 use Rattle.numeral.proofs.Arithmetic.{lt-or-ge}
-use Rattle.rules.specs.Answers.{taken, _>>=_, _>>_, demand, given}
+use Rattle.rules.specs.Answers.{kept}
 use Rattle.rules.specs.Bytes.{all}
 use Rattle.rules.specs.Characters.{character}
 use Rattle.rules.specs.BankNumbers.{allZero, leading, stringIn}
 use Rattle.rules.specs.Conditions.{WrongGroups}
 use Rattle.rules.proofs.Tests.{apart, is-true, is-false, both, and, not-both, all-at, not-all}
-use Rattle.rules.proofs.Answers.{Settled}
+use Rattle.rules.proofs.Answers.{Decides}
 
 abbrev pub nonzero : ℕ → Bool
 nonzero c = not (eqb c 0)
@@ -94,19 +94,18 @@ module _ (gs cs : List ℕ) (z : ℕ) (e : gs ≡ cs ++ replicate z 0) (n : T (a
           let k : i < length gs = omega (arith, ap length e, length-append cs (replicate z 0)) in
           inr (inr (i, k, filled i m, rw (inside i m) (T-not (character (getD cs i 0)) c)))
 
-pub string-settled : (gs : List ℕ) → Settled 19 (WrongGroups (length gs) λ i. getD gs i 0) (StringIs gs) (stringIn gs)
-string-settled gs = go (leading gs) (leading-is gs)
+pub string-decides : (gs : List ℕ) → Decides (WrongGroups (length gs) λ i. getD gs i 0) (StringIs gs) (stringIn gs)
+string-decides gs = go (leading gs) (leading-is gs)
   where
-    judge : (cs : List ℕ) → LeadingIs gs (some cs) → (b : Bool) → (ltb 0 (length cs) && all character cs) ≡ b → Settled 19 (WrongGroups (length gs) λ i. getD gs i 0) (StringIs gs) (demand b 19 >> taken cs)
+    judge : (cs : List ℕ) → LeadingIs gs (some cs) → (b : Bool) → (ltb 0 (length cs) && all character cs) ≡ b → Decides (WrongGroups (length gs) λ i. getD gs i 0) (StringIs gs) (cond b (some cs) none)
     judge cs i true e =
         let (a, b) = both (ltb 0 (length cs)) (all character cs) (rw e tt) in
         (right-groups gs cs (i .0) (i .1) (i .2) a b, (i .0, i .1, a, b))
-    judge cs i false e = (refl, wrong-groups gs cs (i .0) (i .1) (i .2) (rw e tt))
+    judge cs i false e = wrong-groups gs cs (i .0) (i .1) (i .2) (rw e tt)
 
-    go : (o : Option (List ℕ)) → LeadingIs gs o
-        → Settled 19 (WrongGroups (length gs) λ i. getD gs i 0) (StringIs gs) (given o 19 >>= λ cs. demand (ltb 0 (length cs) && all character cs) 19 >> taken cs)
-    go none i = (refl, inr (inl i))
+    go : (o : Option (List ℕ)) → LeadingIs gs o → Decides (WrongGroups (length gs) λ i. getD gs i 0) (StringIs gs) (kept (λ cs. ltb 0 (length cs) && all character cs) o)
+    go none i = inr (inl i)
     go (some cs) i = judge cs i (ltb 0 (length cs) && all character cs) refl
 
-pub string-of : (cs : List ℕ) (z : ℕ) → T (all nonzero cs) → T (ltb 0 (length cs)) → T (all character cs) → stringIn (cs ++ replicate z 0) ≡ taken cs
+pub string-of : (cs : List ℕ) (z : ℕ) → T (all nonzero cs) → T (ltb 0 (length cs)) → T (all character cs) → stringIn (cs ++ replicate z 0) ≡ some cs
 string-of cs z n s h = rw (leading-of cs z n, is-true (ltb 0 (length cs) && all character cs) (and (ltb 0 (length cs)) (all character cs) s h))

@@ -17,11 +17,11 @@ use Rattle.rules.specs.BankNumbers.{tagOfBank}
 use Rattle.rules.specs.Raw.{rawText, rawOfBank}
 use Rattle.rules.specs.Calls.{Call, call, textToBank, bankToText, rawLine, bankRoom, textRoom}
 
--- what is known of a text and a bank: each gives the other, or one of them gives a number; the raw line of a bank
+-- what is known of a text and a bank: each gives the other, or one of them gives a number and a place; the raw line of a bank
 pub data Known : Type 0 where
   each : String → List ℕ → Known
-  text : String → ℕ → Known
-  bank : List ℕ → ℕ → Known
+  text : String → ℕ → ℕ → Known
+  bank : List ℕ → ℕ → ℕ → Known
   raw : List ℕ → String → Known
 
 -- a bank of W words, first the control word, as one number
@@ -44,14 +44,14 @@ blank n = replicate n 7
 -- what the calls give, and what they should
 unfoldable pub gives : Known → List Call
 gives (each t b) = textToBank (bytes t) (blank bankRoom) ∷ bankToText b (blank textRoom) ∷ []
-gives (text t n) = textToBank (bytes t) (blank bankRoom) ∷ []
-gives (bank b n) = bankToText b (blank textRoom) ∷ []
+gives (text t n p) = textToBank (bytes t) (blank bankRoom) ∷ []
+gives (bank b n p) = bankToText b (blank textRoom) ∷ []
 gives (raw b t) = rawLine b (blank textRoom) ∷ []
 
 unfoldable pub expected : Known → List Call
 expected (each t b) = call (blank bankRoom) (taken b) ∷ call (blank textRoom) (taken (bytes t)) ∷ []
-expected (text t n) = call (blank bankRoom) (refused n) ∷ []
-expected (bank b n) = call (blank textRoom) (refused n) ∷ []
+expected (text t n p) = call (blank bankRoom) (refused n p) ∷ []
+expected (bank b n p) = call (blank textRoom) (refused n p) ∷ []
 expected (raw b t) = call (blank textRoom) (taken (bytes t)) ∷ []
 
 unfoldable pub rows1to14 : List Known
@@ -63,36 +63,36 @@ rows1to14 =
     -- 3
     each "urn:epc:tag:grai-96:0.000000000001..5" (words6 0x3000_330000000000040000000005) ∷
     -- 4
-    bank (words6 0x3000_330000000000044000000005) 18 ∷
+    bank (words6 0x3000_330000000000044000000005) 18 0x56 ∷
     -- 5
     each "urn:epc:tag:sscc-96:3.0614141.1234567890" (words6 0x3000_3174257BF4499602D2000000) ∷
-    bank (words6 0x3000_3174257BF4499602D2000001) 15 ∷
+    bank (words6 0x3000_3174257BF4499602D2000001) 15 0x7F ∷
     -- 6
     each "urn:epc:tag:sgtin-198:0.0614141.812345.a.b" (words13 0x6800_3614257BF7194E70AEC400000000000000000000000000000000) ∷
     -- 7
     each "urn:epc:tag:sgtin-96:3.0614141.812345.274877906943" (words6 0x3000_3074257BF7194E7FFFFFFFFF) ∷
-    text "urn:epc:tag:sgtin-96:3.0614141.812345.274877906944" 8 ∷
+    text "urn:epc:tag:sgtin-96:3.0614141.812345.274877906944" 8 38 ∷
     -- 8
-    text "urn:epc:tag:sgtin-96:3.0614141.812345.007" 7 ∷
+    text "urn:epc:tag:sgtin-96:3.0614141.812345.007" 7 38 ∷
     -- 9
     each "urn:epc:tag:sgtin-198:0.0614141.812345.a%2Fb" (words13 0x6800_3614257BF7194E70AFC400000000000000000000000000000000) ∷
-    text "urn:epc:tag:sgtin-198:0.0614141.812345.a%2fb" 7 ∷
-    text "urn:epc:tag:sgtin-198:0.0614141.812345.%41" 7 ∷
+    text "urn:epc:tag:sgtin-198:0.0614141.812345.a%2fb" 7 39 ∷
+    text "urn:epc:tag:sgtin-198:0.0614141.812345.%41" 7 39 ∷
     -- 10
-    text "urn:epc:tag:sgtin-96:8.0614141.812345.6789" 4 ∷
+    text "urn:epc:tag:sgtin-96:8.0614141.812345.6789" 4 21 ∷
     -- 11
-    bank (words6 0x3000_307C257BF7194E4000001A85) 16 ∷
+    bank (words6 0x3000_307C257BF7194E4000001A85) 16 0x2B ∷
     -- 12
-    bank (words6 0x3000_3003FFFFFFFFFC0000000000) 17 ∷
+    bank (words6 0x3000_3003FFFFFFFFFC0000000000) 17 0x2E ∷
     -- 13
-    bank (words6 0x3001_3074257BF7194E4000001A85) 12 ∷
-    bank (words6 0x3100_3074257BF7194E4000001A85) 11 ∷
-    bank (words6 0x0000_3074257BF7194E4000001A85) 10 ∷
+    bank (words6 0x3001_3074257BF7194E4000001A85) 12 0x15 ∷
+    bank (words6 0x3100_3074257BF7194E4000001A85) 11 0x17 ∷
+    bank (words6 0x0000_3074257BF7194E4000001A85) 10 0x10 ∷
     -- 14
-    bank (words13 0x3000_3614257BF7194E70AEC400000000000000000000000000000000) 14 ∷
+    bank (words13 0x3000_3614257BF7194E70AEC400000000000000000000000000000000) 14 0x10 ∷
     -- tagline's lines that rows 2 and 4 don't have
     raw (words6 0x3000_330000000000044000000005) "urn:epc:raw:96.x330000000000044000000005" ∷
-    bank [] 9 ∷ []
+    bank [] 9 0 ∷ []
 
 -- 001, annex E.3, lines 11955 to 12200, as corrected in docs; the last two are those of 000, lines 5069 and 5057
 unfoldable pub annex : List Known
@@ -137,9 +137,9 @@ unfoldable pub section12 : List Known
 section12 =
     raw (words6 0x3601_1234567890ABCDEF01234567) "urn:epc:raw:96.x1234567890ABCDEF01234567" ∷
     raw (words6 0x31C1_1234567890ABCDEF01234567) "urn:epc:raw:96.xC1.x1234567890ABCDEF01234567" ∷
-    bank (words6 0x3601_1234567890ABCDEF01234567) 12 ∷
-    bank (words6 0x31C1_1234567890ABCDEF01234567) 11 ∷
-    bank (words6 0x3000_1234567890ABCDEF01234567) 13 ∷ []
+    bank (words6 0x3601_1234567890ABCDEF01234567) 12 0x15 ∷
+    bank (words6 0x31C1_1234567890ABCDEF01234567) 11 0x17 ∷
+    bank (words6 0x3000_1234567890ABCDEF01234567) 13 0x20 ∷ []
 
 pub known-tags : (map gives rows1to14 ≡ map expected rows1to14) × (map gives annex ≡ map expected annex) × (map gives by-hand ≡ map expected by-hand) × (map gives section12 ≡ map expected section12)
 unfolding rows1to14 annex by-hand section12 gives expected words6 words8 words11 words13 blank textToBank bankToText rawLine tagOfText tagOfBank rawOfBank rawText bankOf textOf gather value numeral spread sizeIn size shortest schemes rows tableA1 escaped start

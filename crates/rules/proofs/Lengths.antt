@@ -32,7 +32,7 @@ use Rattle.rules.proofs.Banks.{bank-length}
 use Rattle.rules.proofs.BankReads.{at-lt}
 
 -- A part's characters.
-abbrev longest : Form → List ℕ → ℕ
+abbrev pub longest : Form → List ℕ → ℕ
 longest company ds = prefixDigits (rowOf (length ds))
 longest (digits b n) ds = n
 longest (integer b) ds = b / 3
@@ -41,7 +41,7 @@ longest (atMost b n) ds = n
 longest (numeric b n) ds = n
 
 -- b / 3 digits are enough for b bits
-abbrev Enough : Form → Type 0
+abbrev pub Enough : Form → Type 0
 Enough company = Unit
 Enough (digits b n) = Unit
 Enough (integer b) = (0 < b / 3) × (2 ^ b ≤ 10 ^ (b / 3))
@@ -57,7 +57,7 @@ string-length (c ∷ cs) = go (plain c) (string-length cs)
     go true h = omega arith
     go false h = omega arith
 
-part-length : (f : Form) (p : List ℕ) → Enough f → Fit f p → length (spelled f p) ≤ longest f p
+pub part-length : (f : Form) (p : List ℕ) → Enough f → Fit f p → length (spelled f p) ≤ longest f p
 part-length company ds e h = rw length-map (omega (arith, has-row ds h .1))
 part-length (digits b n) ds e h = rw length-map (omega (arith, eqb→eq (length ds) n (h .shape)))
 part-length (integer b) ds e h =
@@ -70,7 +70,7 @@ part-length (atMost b n) ds e h = rw length-map (omega (arith, leb→le (length 
 part-length (numeric b n) ds e h = rw length-map (omega (arith, leb→le (length ds) n (h .size)))
 
 -- What fits a layout has a text of at most m characters.
-abbrev Within : Layout → ℕ → Type 0
+abbrev pub Within : Layout → ℕ → Type 0
 Within (part r f k) m = Enough f × ((p : List ℕ) → Fit f p → (longest f p < m) × Within (k p) (m - suc (longest f p)))
 Within (end r f) m = Enough f × ((p : List ℕ) → Fit f p → longest f p ≤ m)
 
@@ -128,7 +128,7 @@ body-within (Zeros t z) n m h =
     (row-within t b k [] .0, λ p q. rw (row-within t b k p .1) h)
 body-within E n m h = end-within (integer (assetBits (rowOf n))) m h
 
-parts-within : (p : Parts) (m : ℕ) → PartsWithin p m → Within (laid p) m
+pub parts-within : (p : Parts) (m : ℕ) → PartsWithin p m → Within (laid p) m
 parts-within (F body) m h = (
   (lit< tt, lit≤ tt),
   λ p q. (omega arith, (tt, λ ds q. let (a, r) = row ds q in (a, body-within body (length ds) _ r))),
@@ -140,7 +140,7 @@ parts-within (Integers a b c) m h =
     (integer-within a m (h .0) .0, λ p q. (omega arith, (integer-within b (m - suc (a / 3)) (h .1) .0, λ p q. (omega arith, end-within (integer c) (m - suc (a / 3) - suc (b / 3)) (h .2)))))
 
 -- what is left of 99 characters behind the start, the name and the colon
-abbrev left : Scheme → ℕ
+abbrev pub left : Scheme → ℕ
 left s = 99 - (12 + length (label s))
 
 -- what is seen scheme by scheme: the words, the name, and that 99 characters are enough

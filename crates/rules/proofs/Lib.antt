@@ -17,9 +17,11 @@ pub mod Codes
 pub mod CodeReads
 pub mod Banks
 pub mod BankReads
+pub mod OnePlace
 pub mod FirstRule
 pub mod Exact
 pub mod Lengths
+pub mod Places
 pub mod OneAnswer
 pub mod Again
 pub mod CallsExact

@@ -1,6 +1,6 @@
 -- The bits of a number: a field that is read is refused by its rule or is right, and what is right is read.
-use Prim.Native.Nat.{ℕ, zero, suc, _^_, _≤_, _<_}
-use mathlib.Core.Path.{_≡_, sym}
+use Prim.Native.Nat.{ℕ, zero, suc, _+_, _^_, _≤_, _<_}
+use mathlib.Core.Path.{_≡_, refl, sym}
 use mathlib.Core.List.{List, [], _∷_, _++_}
 use native.Mathlib.Omega.{arith}
 use native.Mathlib.Nat.{le-trans}
@@ -31,29 +31,29 @@ pub read : (b v : ℕ) (z : List ℕ) → v < 2 ^ b → (value 2 (take b (binary
 read b v z l = (rw (take-at (binary b v) z b (length-numeral 2 b v)) (value-numeral-lt 2 b v l), drop-at (binary b v) z b (length-numeral 2 b v))
 
 -- a number that is refused with m where it has more than n digits
-pub few-digits-reads : (m n v : ℕ) (R : Field → Type 0) (c : Field) → 0 < m → (v < 10 ^ n → R c) → Reads (rule m (10 ^ n ≤ v) ∷ []) R (demand (ltb v (10 ^ n)) m >> taken c)
-few-digits-reads m n v R c z h =
-    check [] R m (10 ^ n ≤ v) (T (ltb v (10 ^ n))) (demand (ltb v (10 ^ n)) m) (taken c) z
-    (settled-demand m (10 ^ n ≤ v) (ltb v (10 ^ n)) (nltb→le v (10 ^ n)) (λ t k. omega (arith, ltb→lt v (10 ^ n) t))) λ t.
+pub few-digits-reads : (m a n v : ℕ) (R : Field → Type 0) (c : Field) → 0 < m → (v < 10 ^ n → R c) → Reads (rule m (10 ^ n ≤ v) (_≡ a) ∷ []) R (demand (ltb v (10 ^ n)) m a >> taken c)
+few-digits-reads m a n v R c z h =
+    check [] R m (10 ^ n ≤ v) (_≡ a) (T (ltb v (10 ^ n))) (demand (ltb v (10 ^ n)) m a) (taken c) z
+    (settled-demand m a (10 ^ n ≤ v) (ltb v (10 ^ n)) (nltb→le v (10 ^ n)) (λ t k. omega (arith, ltb→lt v (10 ^ n) t))) λ t.
     (tt, h (ltb→lt v (10 ^ n) t))
 
 -- A number of n digits in b bits.
-abbrev pub DecimalIs : ℕ → ℕ → List ℕ → Field → Type 0
-DecimalIs b n l c = T (all digit (c .symbols)) × (length (c .symbols) ≡ n) × (l ≡ binary b (value 10 (c .symbols)) ++ c .rest)
+abbrev pub DecimalIs : ℕ → ℕ → ℕ → List ℕ → Field → Type 0
+DecimalIs a b n l c = T (all digit (c .symbols)) × (length (c .symbols) ≡ n) × (l ≡ binary b (value 10 (c .symbols)) ++ c .rest) × (c .next ≡ a + b)
 
-pub decimal-reads : (m b n : ℕ) (l : List ℕ) → 0 < m → Digits 2 l → b ≤ length l → Reads (rule m (10 ^ n ≤ value 2 (take b l)) ∷ []) (DecimalIs b n l) (decimal m b n l)
-decimal-reads m b n l z h w =
+pub decimal-reads : (m a b n : ℕ) (l : List ℕ) → 0 < m → Digits 2 l → b ≤ length l → Reads (rule m (10 ^ n ≤ value 2 (take b l)) (_≡ a) ∷ []) (DecimalIs a b n l) (decimal m a b n l)
+decimal-reads m a b n l z h w =
     let v = value 2 (take b l) in
-    few-digits-reads m n v (DecimalIs b n l) (field (numeral 10 n v) b l) z λ s.
-    (digits-all (numeral 10 n v) (digits-numeral 10 n v (lit< tt)), length-numeral 10 n v, rw (value-numeral-lt 10 n v s, front b l h w .0) (sym (take-append-drop b l)))
+    few-digits-reads m a n v (DecimalIs a b n l) (field (numeral 10 n v) a b l) z λ s.
+    (digits-all (numeral 10 n v) (digits-numeral 10 n v (lit< tt)), length-numeral 10 n v, rw (value-numeral-lt 10 n v s, front b l h w .0) (sym (take-append-drop b l)), refl)
 
-pub decimal-of : (m b n : ℕ) (ds z : List ℕ) → Digits 10 ds → length ds ≡ n → 10 ^ n ≤ 2 ^ b
-    → decimal m b n (binary b (value 10 ds) ++ z) ≡ taken (record { symbols = ds; rest = z })
-decimal-of m b n ds z h e r =
+pub decimal-of : (m a b n : ℕ) (ds z : List ℕ) → Digits 10 ds → length ds ≡ n → 10 ^ n ≤ 2 ^ b
+    → decimal m a b n (binary b (value 10 ds) ++ z) ≡ taken (record { symbols = ds; next = a + b; rest = z })
+decimal-of m a b n ds z h e r =
     let v = value 10 ds in
     let s : v < 10 ^ n = rw (← e) (value-lt 10 ds h) in
-    let (a, d) = read b v z (le-trans s r) in
-    rw (a, d, is-true (ltb v (10 ^ n)) (lt→ltb v (10 ^ n) s), numeral-of-value 10 n ds h e)
+    let (u, d) = read b v z (le-trans s r) in
+    rw (u, d, is-true (ltb v (10 ^ n)) (lt→ltb v (10 ^ n) s), numeral-of-value 10 n ds h e)
 
 -- An integer is the shortest numeral of its value.
 pub whole-of : (ds : List ℕ) → Digits 10 ds → T (plainNumber ds) → shortest 10 (value 10 ds) ≡ ds

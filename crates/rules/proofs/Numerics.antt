@@ -13,11 +13,11 @@ use Rattle.numeral.specs.Numeral.{value, numeral, Digits, shortest}
 use Rattle.numeral.proofs.Arithmetic.{lt-or-ge}
 use Rattle.numeral.proofs.Values.{value-lt, length-numeral, digits-numeral, value-numeral-lt}
 use Rattle.numeral.proofs.Shortest.{shortest-value, value-shortest}
-use Rattle.rules.specs.Answers.{taken, _>>=_, _>>_, demand, given}
+use Rattle.rules.specs.Answers.{kept}
 use Rattle.rules.specs.BankNumbers.{numericIn}
 use Rattle.rules.specs.Conditions.{OneThen}
 use Rattle.rules.proofs.Tests.{is-true, both, and, eq→eqb}
-use Rattle.rules.proofs.Answers.{Settled}
+use Rattle.rules.proofs.Answers.{Decides}
 use Rattle.rules.proofs.Numbers.{whole-digits}
 
 -- the integer is the digits' value and a power of ten
@@ -52,39 +52,35 @@ numeric-fits b n ds h l r =
 abbrev counts : ℕ → List ℕ → Bool
 counts n ds = ltb 0 (length ds) && leb (length ds) n
 
-pub numeric-of : (n : ℕ) (ds : List ℕ) → Digits 10 ds → T (ltb 0 (length ds)) → T (leb (length ds) n) → numericIn n (shortest 10 (value 10 (1 ∷ ds))) ≡ taken ds
+pub numeric-of : (n : ℕ) (ds : List ℕ) → Digits 10 ds → T (ltb 0 (length ds)) → T (leb (length ds) n) → numericIn n (shortest 10 (value 10 (1 ∷ ds))) ≡ some ds
 numeric-of n ds h s l = rw (numeral-of-one ds h, is-true (counts n ds) (and (ltb 0 (length ds)) (leb (length ds) n) s l))
 
 -- what is read is a numeric string, and what is refused is none
 abbrev pub NumericIs : ℕ → ℕ → List ℕ → Type 0
 NumericIs n v ds = Digits 10 ds × T (ltb 0 (length ds)) × T (leb (length ds) n) × (v ≡ value 10 (1 ∷ ds))
 
-pub numeric-settled : (n v : ℕ) → Settled 19 (¬ (OneThen n v)) (NumericIs n v) (numericIn n (shortest 10 v))
-numeric-settled n v = go (shortest 10 v) refl
+pub numeric-decides : (n v : ℕ) → Decides (¬ (OneThen n v)) (NumericIs n v) (numericIn n (shortest 10 v))
+numeric-decides n v = go (shortest 10 v) refl
   where
     same : (l : List ℕ) → shortest 10 v ≡ l → (r : OneThen n v) → l ≡ 1 ∷ r .0
     same l e r = sym e ∙ numeral-is n v r
 
-    judge : (es : List ℕ) → shortest 10 v ≡ 1 ∷ es → (b : Bool) → counts n es ≡ b → Settled 19 (¬ (OneThen n v)) (NumericIs n v) (demand b 19 >> taken es)
+    judge : (es : List ℕ) → shortest 10 v ≡ 1 ∷ es → (b : Bool) → counts n es ≡ b → Decides (¬ (OneThen n v)) (NumericIs n v) (cond b (some es) none)
     judge es e true c =
         let (s, l) = both (ltb 0 (length es)) (leb (length es) n) (rw c tt) in
         let (h, q) = numeral-says v es e in
         (λ none. none (es, h, ltb→lt 0 (length es) s, leb→le (length es) n l, q), (h, s, l, q))
-    judge es e false c = (
-      refl,
-      λ r.
-          let q : es ≡ r .0 = cc (same (1 ∷ es) e r) in
-          let t : T (counts n es) = rw q (and (ltb 0 (length (r .0))) (leb (length (r .0)) n) (lt→ltb 0 (length (r .0)) (r .2)) (le→leb (length (r .0)) n (r .3))) in
-          rw c at t,
-    )
+    judge es e false c = λ r.
+        let q : es ≡ r .0 = cc (same (1 ∷ es) e r) in
+        let t : T (counts n es) = rw q (and (ltb 0 (length (r .0))) (leb (length (r .0)) n) (lt→ltb 0 (length (r .0)) (r .2)) (le→leb (length (r .0)) n (r .3))) in
+        rw c at t
 
-    begin : (d : ℕ) (es : List ℕ) → shortest 10 v ≡ d ∷ es → (b : Bool) → eqb d 1 ≡ b
-        → Settled 19 (¬ (OneThen n v)) (NumericIs n v) (given (cond b (some es) none) 19 >>= λ ds. demand (counts n ds) 19 >> taken ds)
+    begin : (d : ℕ) (es : List ℕ) → shortest 10 v ≡ d ∷ es → (b : Bool) → eqb d 1 ≡ b → Decides (¬ (OneThen n v)) (NumericIs n v) (kept (counts n) (cond b (some es) none))
     begin d es e true c = judge es (e ∙ ap (_∷ es) (eqb→eq d 1 (rw c tt))) (counts n es) refl
-    begin d es e false c = (refl, λ r. let q : d ≡ 1 = cc (same (d ∷ es) e r) in rw c at (eq→eqb d 1 q))
+    begin d es e false c = λ r. let q : d ≡ 1 = cc (same (d ∷ es) e r) in rw c at (eq→eqb d 1 q)
 
-    go : (l : List ℕ) → shortest 10 v ≡ l → Settled 19 (¬ (OneThen n v)) (NumericIs n v) (numericIn n l)
-    go [] e = (refl, λ r. let z : _≡_ {A = ℕ} 0 1 = cc (same [] e r) in omega arith)
+    go : (l : List ℕ) → shortest 10 v ≡ l → Decides (¬ (OneThen n v)) (NumericIs n v) (numericIn n l)
+    go [] e = λ r. let z : _≡_ {A = ℕ} 0 1 = cc (same [] e r) in omega arith
     go (d ∷ es) e = begin d es e (eqb d 1) refl
 
 -- the integers that read as one: those from 10^k on and below twice that, for 1 to n digits

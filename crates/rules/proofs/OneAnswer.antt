@@ -1,4 +1,4 @@
--- For each call one answer keeps the promise: no second number, length or output does.
+-- For each call one answer keeps the promise: no second number, place, length or output does.
 use Prim.Native.Nat.{ℕ, zero, suc, _≤_, _<_}
 use mathlib.Core.Path.{_≡_, refl, sym, _∙_, ap}
 use mathlib.Core.Logic.{_↔_}
@@ -16,57 +16,65 @@ use Rattle.rules.specs.Raw.{rawText, rawOfBank}
 use Rattle.rules.specs.Calls.{Call, call, lent, bankRoom, textRoom, bankAnswer, textAnswer, rawAnswer, textToBank, bankToText, rawLine}
 use Rattle.rules.specs.Conditions.{Rule, textRules, bankRules, rawRules}
 use Rattle.rules.specs.Promises.{Promised, Short, TextToBank, BankToText, RawLine}
-use Rattle.rules.proofs.Answers.{Reads, settled-demand, check, reads-map, reads-weaken, one-first, first-of}
+use Rattle.rules.proofs.Answers.{Reads, settled-demand, check, reads-map, reads-weaken, OnePlace, one-first, first-of}
 use Rattle.rules.proofs.TextReads
 use Rattle.rules.proofs.Banks
 use Rattle.rules.proofs.BankReads
 use Rattle.rules.proofs.Exact
+use Rattle.rules.proofs.OnePlace.{one-place-of-text, one-place-of-bank, one-place-of-raw}
 use Rattle.rules.proofs.Lengths.{text-length, bank-size, raw-length}
 
 -- what is written is right, and there is room for it
 abbrev Fitting : (List ℕ → Type 0) → List ℕ → List ℕ → Type 0
 Fitting Right out w = Right w × (length w ≤ length out)
 
-same-call : (c d : Call) → c .number ≡ d .number → c .written ≡ d .written → c .output ≡ d .output → c ≡ d
-same-call c d n w o = λ i. record { number = n i; written = w i; output = o i }
+same-call : (c d : Call) → c .number ≡ d .number → c .place ≡ d .place → c .written ≡ d .written → c .output ≡ d .output → c ≡ d
+same-call c d n p w o = λ i. record { number = n i; place = p i; written = w i; output = o i }
 
-module _ (rs : List Rule) (Right : List ℕ → Type 0) (out : List ℕ) where
+module _ (rs : List Rule) (places : OnePlace rs) (Right : List ℕ → Type 0) (out : List ℕ) where
   keeps : (a : Answer (List ℕ)) → Reads rs (Fitting Right out) a → Promised rs Right out (call out a)
-  keeps (refused n) h = record { first = h .0; accepted = λ e. absurd (omega arith); refused = λ _. (refl, refl) }
+  keeps (refused n p) h = record { first = h .0; accepted = λ e. absurd (omega arith); refused = λ _. (refl, refl) }
   keeps (taken w) h =
       record { first = first-of rs (Fitting Right out) (taken w) h; accepted = λ _. (w, h .1 .0, refl, refl); refused = λ f. absurd (f refl) }
 
   one-call : (c d : Call) → ((v w : List ℕ) → Right v → Right w → v ≡ w) → Promised rs Right out c → Promised rs Right out d → c ≡ d
   one-call c d unique p q = go (c .number) refl
     where
+      both : (c .number ≡ d .number) × (c .place ≡ d .place)
+      both = one-first rs places (c .number) (c .place) (d .number) (d .place) (p .first) (q .first)
+
       n : c .number ≡ d .number
-      n = one-first rs (c .number) (d .number) (p .first) (q .first)
+      n = both .0
 
       go : (k : ℕ) → c .number ≡ k → c ≡ d
       go zero e =
           let (v, x, cw, co) = p .accepted e in
           let (w, y, dw, do′) = q .accepted (sym n ∙ e) in
           let u = unique v w x y in
-          same-call c d n (cw ∙ ap length u ∙ sym dw) (co ∙ ap (λ l. l ++ drop (length l) out) u ∙ sym do′)
+          same-call c d n (both .1) (cw ∙ ap length u ∙ sym dw) (co ∙ ap (λ l. l ++ drop (length l) out) u ∙ sym do′)
       go (suc k) e =
           let (cw, co) = p .refused (λ z. omega arith) in
           let (dw, do′) = q .refused (λ z. omega (arith, n)) in
-          same-call c d n (cw ∙ sym dw) (co ∙ sym do′)
-
-  same-length : (a : Answer (List ℕ)) → Reads rs (Fitting Right out) a → length (call out a .output) ≡ length out
-  same-length (refused n) h = refl
-  same-length (taken w) h = rw (length-append, length-drop) (omega (arith, h .1 .1))
+          same-call c d n (both .1) (cw ∙ sym dw) (co ∙ sym do′)
 
   -- the answer that keeps the promise, and no other
   the-answer : (a : Answer (List ℕ)) → ((v w : List ℕ) → Right v → Right w → v ≡ w) → Reads rs (Fitting Right out) a → (c : Call) → Promised rs Right out c ↔ (c ≡ call out a)
   the-answer a unique h c = (λ p. one-call c (call out a) unique p (keeps a h), λ e. rw e (keeps a h))
 
+-- what is written leaves the output as long as it was
+same-length : (rs : List Rule) (Right : List ℕ → Type 0) (out : List ℕ) (a : Answer (List ℕ)) → Reads rs (Fitting Right out) a → length (call out a .output) ≡ length out
+same-length rs Right out (refused n p) h = refl
+same-length rs Right out (taken w) h = rw (length-append, length-drop) (omega (arith, h .1 .1))
+
 -- rule 1, then the call's own
+lent-places : (room : ℕ) (rs : List Rule) (out : List ℕ) → OnePlace rs → OnePlace (Short room out ∷ rs)
+lent-places room rs out o = ((λ p q h k. h ∙ sym k), o)
+
 lent-reads : (room : ℕ) (rs : List Rule) (Right : List ℕ → Type 0) (out : List ℕ) (a : Answer (List ℕ)) → (room ≤ length out → Reads rs (Fitting Right out) a)
     → Reads (Short room out ∷ rs) (Fitting Right out) (lent room out a)
 lent-reads room rs Right out a h =
-    check rs (Fitting Right out) 1 (length out < room) (T (leb room (length out))) (demand (leb room (length out)) 1) a (lit< tt)
-    (settled-demand 1 (length out < room) (leb room (length out)) (nleb→lt room (length out)) (λ k l. omega (arith, leb→le room (length out) k))) λ k.
+    check rs (Fitting Right out) 1 (length out < room) (_≡ 0) (T (leb room (length out))) (demand (leb room (length out)) 1 0) a (lit< tt)
+    (settled-demand 1 0 (length out < room) (leb room (length out)) (nleb→lt room (length out)) (λ k l. omega (arith, leb→le room (length out) k))) λ k.
     h (leb→le room (length out) k)
 
 abbrev BankOf : List ℕ → List ℕ → Type 0
@@ -85,7 +93,7 @@ module _ (t out : List ℕ) where
   pub one-answer-of-text-to-bank : (c : Call) → TextToBank t out c ↔ (c ≡ textToBank t out)
   unfolding textToBank
   one-answer-of-text-to-bank =
-      the-answer (Short bankRoom out ∷ textRules t) (BankOf t) out (bankAnswer t out) (λ v w x y. x .2 ∙ ap bankOf (Exact.one-division t (x .0) (y .0) (x .1) (y .1)) ∙ sym (y .2)) bank-written
+      the-answer (Short bankRoom out ∷ textRules t) (lent-places bankRoom (textRules t) out (one-place-of-text t)) (BankOf t) out (bankAnswer t out) (λ v w x y. x .2 ∙ ap bankOf (Exact.one-division t (x .0) (y .0) (x .1) (y .1)) ∙ sym (y .2)) bank-written
 
 module _ (b out : List ℕ) (d : Digits 256 b) where
   text-written : Reads (Short textRoom out ∷ bankRules b) (Fitting (TextOf b) out) (textAnswer b out)
@@ -98,7 +106,7 @@ module _ (b out : List ℕ) (d : Digits 256 b) where
   pub one-answer-of-bank-to-text : (c : Call) → BankToText b out c ↔ (c ≡ bankToText b out)
   unfolding bankToText
   one-answer-of-bank-to-text =
-      the-answer (Short textRoom out ∷ bankRules b) (TextOf b) out (textAnswer b out) (λ v w x y. x .2 ∙ ap textOf (Exact.one-tag b (x .0) (y .0) (x .1) (y .1)) ∙ sym (y .2)) text-written
+      the-answer (Short textRoom out ∷ bankRules b) (lent-places textRoom (bankRules b) out (one-place-of-bank b)) (TextOf b) out (textAnswer b out) (λ v w x y. x .2 ∙ ap textOf (Exact.one-tag b (x .0) (y .0) (x .1) (y .1)) ∙ sym (y .2)) text-written
 
 module _ (b out : List ℕ) where
   raw-written : Reads (Short textRoom out ∷ rawRules b) (Fitting (λ w. w ≡ rawText b) out) (rawAnswer b out)
@@ -109,7 +117,7 @@ module _ (b out : List ℕ) where
 
   pub one-answer-of-raw-line : (c : Call) → RawLine b out c ↔ (c ≡ rawLine b out)
   unfolding rawLine
-  one-answer-of-raw-line = the-answer (Short textRoom out ∷ rawRules b) (λ w. w ≡ rawText b) out (rawAnswer b out) (λ v w x y. x ∙ sym y) raw-written
+  one-answer-of-raw-line = the-answer (Short textRoom out ∷ rawRules b) (lent-places textRoom (rawRules b) out (one-place-of-raw b)) (λ w. w ≡ rawText b) out (rawAnswer b out) (λ v w x y. x ∙ sym y) raw-written
 
 -- a call leaves the output as long as it was
 pub same-lengths : (t b out : List ℕ) → Digits 256 b

@@ -1,12 +1,14 @@
 -- A text is refused by the first rule that applies; taken, it is the text of its tag, and of no other.
-use Prim.Native.Nat.{ℕ}
+use Prim.Native.Nat.{ℕ, _+_}
 use mathlib.Core.Path.{_≡_, refl, sym, _∙_, ap, ap₂}
 use mathlib.Core.Logic.{_↔_}
 use mathlib.Core.List.{List, [], _∷_, _++_}
 use mathlib.Core.Option.{Option, none, some}
 use mathlib.Core.Bool.{Bool, true, false, cond}
+use native.Mathlib.Omega.{arith}
 use lib.Dec.{T, eqb, eqb→eq, eqb-refl, lit<}
-use lib.ListN.{length}
+use lib.ListN.{length, drop, length-append}
+use lib.Seq.{drop-at, drop-drop}
 use Rattle.rules.specs.Answers.{taken, given}
 use Rattle.rules.specs.Bytes.{dot}
 use Rattle.rules.specs.declared.Scheme.{Scheme}
@@ -18,7 +20,7 @@ use Rattle.rules.specs.declared.Parts.the-variants.{F, Integers}
 use Rattle.rules.specs.Schemes.{Form, company, digits, integer, string, atMost, numeric, rowOf, cell, schemes, about}
 use Rattle.rules.specs.Grammar.{Layout, part, end, laid, bodyLayout, layout, Fit, Fits, more, one, sized, spelled, written, Tag, start, label, textOf, TagText}
 use Rattle.rules.specs.TextNumbers.{after, Named, choose, named, partsIn, tagOfText}
-use Rattle.rules.specs.Conditions.{Rule, rule, Formed, TooLarge, NoFilter, NoPrefix, NoReference, OfLast, OfText, textRules}
+use Rattle.rules.specs.Conditions.{Rule, rule, Formed, TooLarge, NoFilter, NoPrefix, NoReference, OfLast, OfText, fromFilter, fromPrefix, fromReference, fromLast, Begins, PartAt, textRules}
 use Rattle.rules.specs.Conditions.{Named as IsNamed}
 use Rattle.rules.proofs.Tests.{is-true}
 use Rattle.rules.proofs.Answers.{Gives, gives-map, Decides, decided, Reads, settled-given, step, reads-map, Covers, done, same, reads-covers}
@@ -49,12 +51,12 @@ clear (string b) p d h = absurd d
 clear (atMost b n) p d h = no-dots p (h .symbols)
 clear (numeric b n) p d h = no-dots p (h .symbols)
 
-parts-of : {l : Layout} {ps : List (List ℕ)} → Fits l ps → Separable l → partsIn l (written l ps) ≡ taken ps
-parts-of (one {f = f} {p = p} h) s = rw (formed-at f p (h .symbols) (h .shape), is-true (sized f p) (h .size))
-parts-of (more {f = f} {k = k} {p = p} {ps = ps} h i) s =
+parts-of : {l : Layout} {ps : List (List ℕ)} → Fits l ps → Separable l → (i : ℕ) → partsIn i l (written l ps) ≡ taken ps
+parts-of (one {f = f} {p = p} h) s i = rw (formed-at f p (h .symbols) (h .shape), is-true (sized f p) (h .size))
+parts-of (more {f = f} {k = k} {p = p} {ps = ps} h r) s i =
     let c = clear f p (s .0) h in
     let u = written (k p) ps in
-    rw (among-of dot u (spelled f p), upto-of dot u (spelled f p) c, behind-of dot u (spelled f p) c, formed-at f p (h .symbols) (h .shape), is-true (sized f p) (h .size), parts-of i (s .1 p))
+    rw (among-of dot u (spelled f p), upto-of dot u (spelled f p) c, behind-of dot u (spelled f p) c, formed-at f p (h .symbols) (h .shape), is-true (sized f p) (h .size), parts-of r (s .1 p) (i + length (spelled f p) + 1))
 
 body-separable : (body : Body) (n : ℕ) → Separable (bodyLayout body n)
 body-separable (Then t l) n = let c = cell t (rowOf n) in (by-count Dotless t (c .0) (c .1) tt tt, λ _. tt)
@@ -121,7 +123,7 @@ module _ (t : List ℕ) (s : Scheme) (v : List ℕ) (e : IsNamed t s v) where
       let r : _≡_ {A = Named} (record { scheme = s′; rest = v′ }) (record { scheme = s; rest = v }) = cc (named-of s′ v′, named-of s v, ap (named schemes) q) in
       (ap (λ c. c .scheme) r, ap (λ c. c .rest) r)
 
-  of-text : (Q : Parts → List ℕ → Type 0) → Q (about s .parts) v ↔ OfText t Q
+  pub of-text : (Q : Parts → List ℕ → Type 0) → Q (about s .parts) v ↔ OfText t Q
   of-text Q = (λ q. (s, v, e, q), back)
     where
       back : OfText t Q → Q (about s .parts) v
@@ -130,16 +132,29 @@ module _ (t : List ℕ) (s : Scheme) (v : List ℕ) (e : IsNamed t s v) where
 -- the rules behind the name
 abbrev nameRules : List ℕ → List Rule
 nameRules t =
-    rule 4 (OfText t NoFilter) ∷
-    rule 5 (OfText t NoPrefix) ∷
-    rule 6 (OfText t NoReference) ∷
-    rule 7 (OfText t (OfLast λ f x. ¬ (Formed f x))) ∷
-    rule 8 (OfText t (OfLast TooLarge)) ∷ []
+    rule 4 (OfText t NoFilter) (PartAt t fromFilter) ∷
+    rule 5 (OfText t NoPrefix) (PartAt t fromPrefix) ∷
+    rule 6 (OfText t NoReference) (PartAt t fromReference) ∷
+    rule 7 (OfText t (OfLast λ f x. ¬ (Formed f x))) (PartAt t fromLast) ∷
+    rule 8 (OfText t (OfLast TooLarge)) (PartAt t fromLast) ∷ []
 
-name-covers : (t : List ℕ) (s : Scheme) (v : List ℕ) → IsNamed t s v → Covers (partRules (about s .parts) v) (nameRules t)
+name-covers : (t : List ℕ) (s : Scheme) (v : List ℕ) → IsNamed t s v → Covers (partRules t (about s .parts) v) (nameRules t)
 name-covers t s v e =
     let of = of-text t s v e in
-    same refl (of NoFilter) (same refl (of NoPrefix) (same refl (of NoReference) (same refl (of (OfLast λ f x. ¬ (Formed f x))) (same refl (of (OfLast TooLarge)) done))))
+    same refl (of NoFilter) (at fromFilter)
+    (same refl (of NoPrefix) (at fromPrefix)
+    (same refl (of NoReference) (at fromReference)
+    (same refl (of (OfLast λ f x. ¬ (Formed f x))) (at fromLast)
+    (same refl (of (OfLast TooLarge)) (at fromLast) done))))
+  where
+    at : (from : Parts → List ℕ → List ℕ) (p : ℕ) → Begins t (from (about s .parts) v) p → PartAt t from p
+    at from p h = (s, v, e, h)
+
+-- where the parts begin
+named-begins : (t : List ℕ) (s : Scheme) (v : List ℕ) → IsNamed t s v → Begins t v (length start + length (label s))
+named-begins t s v e =
+    let d : drop (length (label s)) (drop (length start) t) ≡ v = rw (e, drop-at start (label s ++ v) (length start) refl) (drop-at (label s) v (length (label s)) refl) in
+    (rw (e, length-append start (label s ++ v), length-append (label s) v) (omega arith), sym d ∙ drop-drop (length (label s)) (length start) t)
 
 -- the first two rules
 abbrev Started : List ℕ → Type 0
@@ -159,14 +174,15 @@ name-decided t u e =
     (record { scheme = r .0; rest = r .1 }, rw (same-rest start u (label (r .0) ++ r .1) (sym e ∙ r .2)) (named-of (r .0) (r .1)))
 
 pub tag-reads : (t : List ℕ) → Reads (textRules t) (TagText t) (tagOfText t)
-unfolding textRules tagOfText textOf
+unfolding textRules tagOfText textOf start
 tag-reads t =
-    step _ (TagText t) 2 (¬ (Started t)) _ (given (after start t) 2) _ (lit< tt) (settled-given 2 (¬ (Started t)) _ (after start t) (start-decided t)) λ u e.
-    step (nameRules t) (TagText t) 3 (¬ (Listed t)) _ (given (named schemes u) 3) _ (lit< tt) (settled-given 3 (¬ (Listed t)) _ (named schemes u) (name-decided t u e)) λ c e′.
+    step _ (TagText t) 2 (¬ (Started t)) (_≡ 0) _ (given (after start t) 2 0) _ (lit< tt) (settled-given 2 0 (¬ (Started t)) _ (after start t) (start-decided t)) λ u e.
+    step (nameRules t) (TagText t) 3 (¬ (Listed t)) (_≡ 12) _ (given (named schemes u) 3 12) _ (lit< tt) (settled-given 3 12 (¬ (Listed t)) _ (named schemes u) (name-decided t u e)) λ c e′.
     let s = c .scheme in
     let v = c .rest in
-    reads-map (nameRules t) _ (TagText t) (λ ps. record { scheme = s; parts = ps }) (partsIn (layout s) v)
-    (reads-covers _ (partsIn (layout s) v) (name-covers t s v e′) (parts-reads (about s .parts) v .reads)) λ ps i.
+    let i = length start + length (label s) in
+    reads-map (nameRules t) _ (TagText t) (λ ps. record { scheme = s; parts = ps }) (partsIn i (layout s) v)
+    (reads-covers _ (partsIn i (layout s) v) (name-covers t s v e′) (parts-reads t (about s .parts) i v (named-begins t s v e′) .reads)) λ ps i.
     record { fits = i .0; text = e′ ∙ ap (λ x. start ++ (label s ++ x)) (i .1) }
 
 pub tag-of : (t : List ℕ) (τ : Tag) → TagText t τ → tagOfText t ≡ taken τ
@@ -174,4 +190,4 @@ unfolding tagOfText textOf
 tag-of t τ r =
     let s = τ .scheme in
     let u = written (layout s) (τ .parts) in
-    rw (r .text, after-of start (label s ++ u), named-of s u, parts-of (r .fits) (separable (about s .parts)))
+    rw (r .text, after-of start (label s ++ u), named-of s u, parts-of (r .fits) (separable (about s .parts)) (length start + length (label s)))

@@ -1,4 +1,5 @@
--- What each public call does: the number, the length, and every byte of the lent output (document 01, "Numbers given, and when").
+-- What each public call does: the number, the place, the length, and every byte of the lent output (document 01, "Numbers given, and when";
+-- document 02, C-12).
 use Prim.Native.Nat.{ℕ}
 use mathlib.Core.List.{List, _++_}
 use lib.Dec.{leb}
@@ -12,18 +13,19 @@ use Rattle.rules.specs.Raw.{rawOfBank}
 
 pub record Call : Type 0 where
   pub number : ℕ
+  pub place : ℕ
   pub written : ℕ
   pub output : List ℕ
 
--- accepted: 0 with the length written, output past it unchanged; refused: the number, length 0, and an unchanged output
+-- accepted: 0 with place 0 and the length written, output past it unchanged; refused: the number, the place, length 0, and an unchanged output
 abbrev pub call : List ℕ → Answer (List ℕ) → Call
-call out (refused n) = record { number = n; written = 0; output = out }
-call out (taken w) = record { number = 0; written = length w; output = w ++ drop (length w) out }
+call out (refused n p) = record { number = n; place = p; written = 0; output = out }
+call out (taken w) = record { number = 0; place = 0; written = length w; output = w ++ drop (length w) out }
 
 -- 1: output shorter than the call's room
 abbrev pub lent : ℕ → List ℕ → Answer (List ℕ) → Answer (List ℕ)
 lent room out a = do
-  demand (leb room (length out)) 1
+  demand (leb room (length out)) 1 0
   a
 
 abbrev pub bankRoom : ℕ

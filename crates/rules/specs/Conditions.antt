@@ -1,11 +1,11 @@
--- When each number applies, by itself and in the words of document 01 ("Numbers given, and when") and document 02 (C-11), apart from the
--- readers of TextNumbers and BankNumbers.
+-- When each number applies, by itself and in the words of document 01 ("Numbers given, and when") and document 02 (C-11), and its place
+-- (document 02, C-12), apart from the readers of TextNumbers and BankNumbers.
 use Prim.Native.Nat.{ℕ, _+_, _-_, _*_, _/_, _^_, _≤_, _<_}
 use mathlib.Core.Path.{_≡_}
 use mathlib.Core.Logic.{_⊎_}
 use mathlib.Core.List.{List, [], _∷_, _++_}
 use lib.Dec.{T}
-use lib.ListN.{length}
+use lib.ListN.{length, drop}
 use Rattle.numeral.specs.Numeral.{value, Digits}
 use Rattle.rules.specs.Bytes.{all, among, upto, behind, dot, digitsText}
 use Rattle.rules.specs.declared.Scheme.{Scheme}
@@ -19,18 +19,19 @@ use Rattle.rules.specs.Characters.{character, stringText}
 use Rattle.rules.specs.Grammar.{start, label}
 use Rattle.rules.specs.Coding.{at, wordCount}
 
--- a number, and when it applies
+-- a number, when it applies, and what its place is then
 pub record Rule : Type 1 where
   pub number : ℕ
   pub applies : Type 0
+  pub place : ℕ → Type 0
 
-abbrev pub rule : ℕ → Type 0 → Rule
-rule n P = record { number = n; applies = P }
+abbrev pub rule : ℕ → Type 0 → (ℕ → Type 0) → Rule
+rule n P Q = record { number = n; applies = P; place = Q }
 
--- n is the number of the first rule that applies, 0 where none does
-abbrev pub First : List Rule → ℕ → Type 0
-First [] n = n ≡ 0
-First (r ∷ rs) n = (r .applies × (n ≡ r .number)) ⊎ ((¬ (r .applies)) × First rs n)
+-- n and p are the number and the place of the first rule that applies, 0 and 0 where none does
+abbrev pub First : List Rule → ℕ → ℕ → Type 0
+First [] n p = (n ≡ 0) × (p ≡ 0)
+First (r ∷ rs) n p = (r .applies × (n ≡ r .number) × r .place p) ⊎ ((¬ (r .applies)) × First rs n p)
 
 -- TEXT TO BANK
 
@@ -111,19 +112,48 @@ abbrev pub OfLast : (Form → List ℕ → Type 0) → Parts → List ℕ → Ty
 OfLast Q (F body) u = OfRow u (OfEnd Q body)
 OfLast Q (Integers a b c) u = Q (integer c) (behind dot (behind dot u))
 
+-- The text from a part on. The filter stands behind the name and its colon, and so does gid-96's first integer; the prefix behind the
+-- filter and its dot; the reference behind the prefix and its dot; the last part behind the reference and its dot, or it is the reference.
+abbrev pub fromFilter : Parts → List ℕ → List ℕ
+fromFilter q u = u
+
+abbrev pub fromPrefix : Parts → List ℕ → List ℕ
+fromPrefix (F body) u = behind dot u
+fromPrefix (Integers a b c) u = u
+
+abbrev pub fromReference : Parts → List ℕ → List ℕ
+fromReference q u = behind dot (fromPrefix q u)
+
+abbrev pub fromEnd : Body → List ℕ → List ℕ
+fromEnd (Then t l) w = behind dot w
+fromEnd (Zeros t z) w = w
+fromEnd E w = w
+
+abbrev pub fromLast : Parts → List ℕ → List ℕ
+fromLast (F body) u = fromEnd body (fromReference (F body) u)
+fromLast (Integers a b c) u = behind dot (fromReference (Integers a b c) u)
+
+-- p is the offset in t at which x, an end of t, begins
+abbrev pub Begins : List ℕ → List ℕ → ℕ → Type 0
+Begins t x p = (p ≤ length t) × (x ≡ drop p t)
+
+-- p is the offset of the first character of a part: where it begins, or would begin
+abbrev pub PartAt : List ℕ → (Parts → List ℕ → List ℕ) → ℕ → Type 0
+PartAt t from p = OfText t λ q u. Begins t (from q u) p
+
 unfoldable pub textRules : List ℕ → List Rule
 textRules t =
     -- doesn't begin with `urn:epc:tag:`
-    rule 2 (¬ ((u : List ℕ) × (t ≡ start ++ u))) ∷
+    rule 2 (¬ ((u : List ℕ) × (t ≡ start ++ u))) (_≡ 0) ∷
     -- what follows is not a listed name and a colon
-    rule 3 (¬ ((s : Scheme) × (u : List ℕ) × Named t s u)) ∷
-    rule 4 (OfText t NoFilter) ∷
-    rule 5 (OfText t NoPrefix) ∷
-    rule 6 (OfText t NoReference) ∷
+    rule 3 (¬ ((s : Scheme) × (u : List ℕ) × Named t s u)) (_≡ 12) ∷
+    rule 4 (OfText t NoFilter) (PartAt t fromFilter) ∷
+    rule 5 (OfText t NoPrefix) (PartAt t fromPrefix) ∷
+    rule 6 (OfText t NoReference) (PartAt t fromReference) ∷
     -- last part has the wrong form, empty included
-    rule 7 (OfText t (OfLast λ f x. ¬ (Formed f x))) ∷
+    rule 7 (OfText t (OfLast λ f x. ¬ (Formed f x))) (PartAt t fromLast) ∷
     -- last part's value, or its number of characters or digits, is too large
-    rule 8 (OfText t (OfLast TooLarge)) ∷ []
+    rule 8 (OfText t (OfLast TooLarge)) (PartAt t fromLast) ∷ []
 
 -- BANK TO TEXT
 
@@ -137,9 +167,20 @@ partitionIn b = at b 0x2B 3
 abbrev pub rowIn : List ℕ → Row
 rowIn b = rowAt (partitionIn b)
 
--- 15: a fill bit or one of the 24 zero bits is 1
+-- the code bit behind the parts, from which on all must be 0: the 24 zero bits, and the fill
+abbrev pub zerosFrom : Scheme → ℕ
+zerosFrom s = about s .bits - zeroBits (about s .parts)
+
+-- 15: a fill bit or one of the 24 zero bits, the bits of the code from bit n on, is 1
+abbrev pub MustBeZero : List ℕ → ℕ → ℕ → Type 0
+MustBeZero b n a = (0x20 + n ≤ a) × (a < 0x20 + 16 * wordCount b)
+
 abbrev pub OneAfter : List ℕ → ℕ → Type 0
-OneAfter b n = (a : ℕ) × (0x20 + n ≤ a) × (a < 0x20 + 16 * wordCount b) × (at b a 1 ≡ 1)
+OneAfter b n = (a : ℕ) × MustBeZero b n a × (at b a 1 ≡ 1)
+
+-- the place of 15: that bit is 1, it must be 0, and every bit before it that must be 0 is 0
+abbrev pub FirstOne : List ℕ → ℕ → ℕ → Type 0
+FirstOne b n p = MustBeZero b n p × (at b p 1 ≡ 1) × ((a : ℕ) → MustBeZero b n a → a < p → at b a 1 ≡ 0)
 
 -- 16: P is 7
 abbrev pub NoRow : List ℕ → Parts → Type 0
@@ -181,25 +222,35 @@ WrongLast b n (F (Zeros t z)) = ⊥
 WrongLast b n (F E) = ⊥
 WrongLast b n (Integers m k l) = ⊥
 
--- 9: fewer than 2 bytes, or fewer than 2 + 2W; 10: W is 0
+-- the place of 19: the first bit of the string, or of the numeric string, not of the group that is wrong
+abbrev pub LastAt : ℕ → Parts → ℕ → Type 0
+LastAt n (F (Then t (Integer m))) p = ⊥
+LastAt n (F (Then t (String m))) p = p ≡ 0x20 + (n - m)
+LastAt n (F (Then t (Numeric m k))) p = p ≡ 0x20 + (n - m)
+LastAt n (F (Zeros t z)) p = ⊥
+LastAt n (F E) p = ⊥
+LastAt n (Integers m k l) p = ⊥
+
+-- 9: fewer than 2 bytes, or fewer than 2 + 2W, and its place is the number of bytes lent; 10: W is 0
 unfoldable pub rawRules : List ℕ → List Rule
 rawRules b =
-    rule 9 ((length b < 2) ⊎ (length b < 2 + 2 * wordCount b)) ∷
-    rule 10 (wordCount b ≡ 0) ∷ []
+    rule 9 ((length b < 2) ⊎ (length b < 2 + 2 * wordCount b)) (_≡ length b) ∷
+    rule 10 (wordCount b ≡ 0) (_≡ 0x10) ∷ []
 
 unfoldable pub bankRules : List ℕ → List Rule
 bankRules b =
     rawRules b ++
     -- toggle is 1
-    (rule 11 (at b 0x17 1 ≡ 1) ∷
+    (rule 11 (at b 0x17 1 ≡ 1) (_≡ 0x17) ∷
     -- bits 15h, 16h or 18h to 1Fh not all 0
-    rule 12 (¬ ((at b 0x15 1 ≡ 0) × (at b 0x16 1 ≡ 0) × (at b 0x18 8 ≡ 0))) ∷
+    rule 12 (¬ ((at b 0x15 1 ≡ 0) × (at b 0x16 1 ≡ 0) × (at b 0x18 8 ≡ 0))) (_≡ 0x15) ∷
     -- header not in the table
-    rule 13 (¬ ((s : Scheme) × (at b 0x20 8 ≡ about s .header))) ∷
+    rule 13 (¬ ((s : Scheme) × (at b 0x20 8 ≡ about s .header))) (_≡ 0x20) ∷
     -- W differs from the scheme's word count
-    rule 14 (OfBank b λ s. ¬ (wordCount b ≡ words s)) ∷
-    rule 15 (OfBank b λ s. OneAfter b (about s .bits - zeroBits (about s .parts))) ∷
-    rule 16 (OfBank b λ s. NoRow b (about s .parts)) ∷
-    rule 17 (OfBank b λ s. LargePrefix b (about s .parts)) ∷
-    rule 18 (OfBank b λ s. LargeReference b (about s .parts)) ∷
-    rule 19 (OfBank b λ s. WrongLast b (about s .bits) (about s .parts)) ∷ [])
+    rule 14 (OfBank b λ s. ¬ (wordCount b ≡ words s)) (_≡ 0x10) ∷
+    rule 15 (OfBank b λ s. OneAfter b (zerosFrom s)) (λ p. OfBank b λ s. FirstOne b (zerosFrom s) p) ∷
+    rule 16 (OfBank b λ s. NoRow b (about s .parts)) (_≡ 0x2B) ∷
+    rule 17 (OfBank b λ s. LargePrefix b (about s .parts)) (_≡ 0x2E) ∷
+    -- at 2Eh plus the prefix bits of the row
+    rule 18 (OfBank b λ s. LargeReference b (about s .parts)) (_≡ 0x2E + prefixBits (rowIn b)) ∷
+    rule 19 (OfBank b λ s. WrongLast b (about s .bits) (about s .parts)) (λ p. OfBank b λ s. LastAt (about s .bits) (about s .parts) p) ∷ [])

@@ -1,4 +1,4 @@
--- What document 01 promises of each public call, in its words; Calls has the one answer that keeps it (proofs/OneAnswer).
+-- What documents 01 and 02 (C-12) promise of each public call, in their words; Calls has the one answer that keeps it (proofs/OneAnswer).
 use Prim.Native.Nat.{ℕ, _≤_, _<_}
 use mathlib.Core.Path.{_≡_}
 use mathlib.Core.Logic.{_⊎_}
@@ -10,16 +10,16 @@ use Rattle.rules.specs.Raw.{rawText}
 use Rattle.rules.specs.Calls.{Call}
 use Rattle.rules.specs.Conditions.{Rule, rule, First, textRules, bankRules, rawRules}
 
--- the first number that applies is given; accepted is 0 with the length written, output past it unchanged;
+-- the first number that applies is given, with its place; accepted is 0 with the length written, output past it unchanged;
 -- any refusal gives length 0 and an unchanged output
 pub record Promised (rules : List Rule) (Right : List ℕ → Type 0) (out : List ℕ) (c : Call) : Type 0 where
-  pub first : First rules (c .number)
+  pub first : First rules (c .number) (c .place)
   pub accepted : c .number ≡ 0 → (w : List ℕ) × Right w × (c .written ≡ length w) × (c .output ≡ w ++ drop (length w) out)
   pub refused : ¬ (c .number ≡ 0) → (c .written ≡ 0) × (c .output ≡ out)
 
 -- 1: output shorter than the room
 abbrev pub Short : ℕ → List ℕ → Rule
-Short room out = rule 1 (length out < room)
+Short room out = rule 1 (length out < room) (_≡ 0)
 
 abbrev pub TextToBank : List ℕ → List ℕ → Call → Type 0
 TextToBank t out = Promised (Short 64 out ∷ textRules t) (λ w. (τ : Tag) × TagText t τ × (w ≡ bankOf τ)) out

@@ -1,11 +1,13 @@
--- Text to bank: the number of a text, read left to right (document 01, "Numbers given, and when": 2 to 8).
-use Prim.Native.Nat.{ℕ, _-_, _/_, _%_}
+-- Text to bank: the number and the place of a text, read left to right (document 01, "Numbers given, and when": 2 to 8; document 02, C-12).
+-- A reader is told at which offset of the text it begins.
+use Prim.Native.Nat.{ℕ, _+_, _-_, _/_, _%_}
 use Prim.Native.Char.{code}
 use mathlib.Core.List.{List, [], _∷_}
 use mathlib.Core.Option.{Option, none, some, Option·map}
 use mathlib.Core.Bool.{Bool, _&&_, cond}
 use lib.Dec.{leb, eqb}
-use Rattle.rules.specs.Answers.{Answer, taken, _>>=_, _>>_, demand, given, numberOf}
+use lib.ListN.{length}
+use Rattle.rules.specs.Answers.{Answer, taken, _>>=_, _>>_, demand, given, kept, numberOf, placeOf}
 use Rattle.rules.specs.Bytes.{among, upto, behind, dot, percent, hexDigit}
 use Rattle.rules.specs.declared.Scheme.{Scheme}
 use Rattle.rules.specs.Schemes.{Form, company, digits, integer, string, atMost, numeric, schemes}
@@ -70,10 +72,6 @@ symbolsIn (atMost b n) = digitsIn
 symbolsIn (numeric b n) = digitsIn
 
 -- the part that a text of this form is, whatever its size
-abbrev pub kept : (List ℕ → Bool) → Option (List ℕ) → Option (List ℕ)
-kept test none = none
-kept test (some p) = cond (test p) (some p) none
-
 abbrev pub formed : Form → List ℕ → Option (List ℕ)
 formed f t = kept (shaped f) (symbolsIn f t)
 
@@ -84,38 +82,41 @@ numberAt prefix = 5
 numberAt reference = 6
 numberAt last = 7
 
--- a part up to the next dot: n for its form and for its size
-abbrev pub partIn : ℕ → Form → List ℕ → Answer (List ℕ)
-partIn n f t = do
-  demand (among dot t) n
-  p ← given (formed f (upto dot t)) n
-  demand (sized f p) n
+-- a part that begins at offset i, up to the next dot: n for its form and for its size
+abbrev pub partIn : ℕ → ℕ → Form → List ℕ → Answer (List ℕ)
+partIn n i f t = do
+  demand (among dot t) n i
+  p ← given (formed f (upto dot t)) n i
+  demand (sized f p) n i
   taken p
 
--- the part that ends the text: n for its form, 8 for its size
-abbrev pub lastIn : ℕ → Form → List ℕ → Answer (List ℕ)
-lastIn n f t = do
-  p ← given (formed f t) n
-  demand (sized f p) 8
+-- the part that begins at offset i and ends the text: n for its form, 8 for its size
+abbrev pub lastIn : ℕ → ℕ → Form → List ℕ → Answer (List ℕ)
+lastIn n i f t = do
+  p ← given (formed f t) n i
+  demand (sized f p) 8 i
   taken p
 
 -- the parts from left to right
-abbrev pub partsIn : Layout → List ℕ → Answer (List (List ℕ))
-partsIn (part r f k) t = do
-  p ← partIn (numberAt r) f t
-  ps ← partsIn (k p) (behind dot t)
+abbrev pub partsIn : ℕ → Layout → List ℕ → Answer (List (List ℕ))
+partsIn i (part r f k) t = do
+  p ← partIn (numberAt r) i f t
+  ps ← partsIn (i + length (upto dot t) + 1) (k p) (behind dot t)
   taken (p ∷ ps)
-partsIn (end r f) t = do
-  p ← lastIn (numberAt r) f t
+partsIn i (end r f) t = do
+  p ← lastIn (numberAt r) i f t
   taken (p ∷ [])
 
 -- 2: the start; 3: a listed name and a colon; then the parts
 unfoldable pub tagOfText : List ℕ → Answer Tag
 tagOfText t = do
-  u ← given (after start t) 2
-  c ← given (named schemes u) 3
-  ps ← partsIn (layout (c .scheme)) (c .rest)
+  u ← given (after start t) 2 0
+  c ← given (named schemes u) 3 (length start)
+  ps ← partsIn (length start + length (label (c .scheme))) (layout (c .scheme)) (c .rest)
   taken (record { scheme = c .scheme; parts = ps })
 
 unfoldable pub textNumber : List ℕ → ℕ
 textNumber t = numberOf (tagOfText t)
+
+unfoldable pub textPlace : List ℕ → ℕ
+textPlace t = placeOf (tagOfText t)

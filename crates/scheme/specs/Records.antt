@@ -123,10 +123,10 @@ blank = record {
   count = 0;
 }
 
-abbrev pub refusal : ℕ → Reading
-refusal n = record { number = n; tag = blank }
+abbrev pub refusal : ℕ → ℕ → Reading
+refusal n p = record { number = n; place = p; tag = blank }
 
 -- what a reader's answer is in code
 abbrev pub readingOf : Answer Tag → Reading
-readingOf (refused n) = refusal n
-readingOf (taken τ) = record { number = 0; tag = recordOf τ }
+readingOf (refused n p) = refusal n p
+readingOf (taken τ) = record { number = 0; place = 0; tag = recordOf τ }

@@ -10,8 +10,8 @@ pub struct BankAddress(pub usize);
 pub struct CodeBit(pub usize);
 
 impl BankAddress {
-    // The place of this address among the bits of the lent bank.
-    pub fn place(self) -> usize
+    // The index of this address among the bits of the lent bank.
+    pub fn index(self) -> usize
         requires { ⌜ 0x10 ≤ self .0 ⌝ }
         ensures { λ r. ⌜ r ≡ self .0 - 0x10 ⌝ }
     {
@@ -23,7 +23,7 @@ impl BankAddress {
         requires { ⌜ 0x10 ≤ self .0 ⌝ }
         ensures { λ r. ⌜ r ≡ (self .0 - 0x10) / 8 ⌝ }
     {
-        self.place() / 8
+        self.index() / 8
     }
 }
 

@@ -1,7 +1,10 @@
 // The record of a tag: what its text and its bank both say, by value.
+use super::counts::CodeBit;
 use rules::MOST_CHARACTERS;
 use rules::Scheme;
 ghost use mathlib.Core.Path.{_≡_};
+ghost use Prim.Native.Nat.{_≤_};
+ghost use Rattle.scheme.specs.Counts.{addressOf};
 ghost use Rattle.scheme.specs.Records.{refusal};
 
 // `digits` are those of the prefix. What a scheme has no part for is 0, so that a tag has one record: gid-96's three integers are
@@ -18,18 +21,21 @@ pub struct Record {
     pub count: usize,
 }
 
-// What reading a text or a bank gives: number 0 and the record of its tag, or the number of the refusal and a blank record.
+// What reading a text or a bank gives: number 0, place 0 and the record of its tag, or the number and the place of the refusal and a blank
+// record.
 pub struct Reading {
     pub number: u8,
+    pub place: usize,
     pub tag: Record,
 }
 
-// A refusal ("Numbers given, and when").
-pub fn refused(number: u8) -> Reading
-    ensures { λ r. ⌜ r ≡ refusal number ⌝ }
+// A refusal ("Numbers given, and when"), and its place (document 02, C-12).
+pub fn refused(number: u8, place: usize) -> Reading
+    ensures { λ r. ⌜ r ≡ refusal number place ⌝ }
 {
     Reading {
         number,
+        place,
         tag: Record {
             scheme: Scheme::Sgtin96,
             filter: 0,
@@ -41,4 +47,13 @@ pub fn refused(number: u8) -> Reading
             count: 0,
         },
     }
+}
+
+// A refusal of a field of the code, at the address of its first bit.
+pub fn refused_at(number: u8, first: CodeBit) -> Reading
+    requires { ⌜ first .0 ≤ 0x1000 ⌝ }
+    ensures { λ r. ⌜ r ≡ refusal number (addressOf first .0) ⌝ }
+{
+    let address = first.address();
+    refused(number, address.0)
 }

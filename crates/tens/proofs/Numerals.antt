@@ -4,6 +4,7 @@ use Prim.Native.Nat.{ℕ, _+_, _-_, _*_, _^_, _≤_, _<_}
 use mathlib.Core.Path.{_≡_, refl, sym, _∙_}
 use mathlib.Core.Logic.{⊎-elim}
 use mathlib.Core.List.{List}
+use mathlib.Core.Option.{Option, none, some}
 use native.Mathlib.Nat.{pow-le-pow-right, pow-suc}
 use native.Mathlib.Numerals.{add-one}
 use native.Mathlib.Omega.{arith}
@@ -12,11 +13,10 @@ use lib.ListN.{length}
 use Rattle.numeral.specs.Numeral.{value, numeral, shortest}
 use Rattle.numeral.proofs.Arithmetic.{lt-or-ge}
 use Rattle.numeral.proofs.Values.{value-lt, length-numeral, value-numeral-lt}
-use Rattle.rules.specs.Answers.{Answer, refused, taken}
 use Rattle.rules.specs.BankNumbers.{numericIn}
 use Rattle.rules.specs.Conditions.{OneThen}
-use Rattle.rules.proofs.Answers.{Settled}
-use Rattle.rules.proofs.Numerics.{one-then, NumericIs, numeric-settled, one-between}
+use Rattle.rules.proofs.Answers.{Decides}
+use Rattle.rules.proofs.Numerics.{one-then, NumericIs, numeric-decides, one-between}
 use Rattle.tens.specs.Numerics.{numericOf, oneBefore}
 
 -- the next power
@@ -37,15 +37,15 @@ pub record Highest (n v k : ℕ) : Type 0 where
   pub above : k < n → v < 10 ^ (k + 1)
 
 -- what numericIn says of v
-abbrev Says : ℕ → ℕ → Answer (List ℕ) → Type 0
-Says n v = Settled 19 (¬ (OneThen n v)) (NumericIs n v)
+abbrev Says : ℕ → ℕ → Option (List ℕ) → Type 0
+Says n v = Decides (¬ (OneThen n v)) (NumericIs n v)
 
 pub no-numeric : (n v : ℕ) → ¬ (OneThen n v) → record { value = 0; count = 0 } ≡ numericOf (numericIn n (shortest 10 v))
-no-numeric n v o = go (numericIn n (shortest 10 v)) (numeric-settled n v)
+no-numeric n v not-one = go (numericIn n (shortest 10 v)) (numeric-decides n v)
   where
-    go : (a : Answer (List ℕ)) → Says n v a → record { value = 0; count = 0 } ≡ numericOf a
-    go (refused m) s = refl
-    go (taken ds) s = absurd (s .0 o)
+    go : (o : Option (List ℕ)) → Says n v o → record { value = 0; count = 0 } ≡ numericOf o
+    go none s = refl
+    go (some ds) s = absurd (s .0 not-one)
 
 module _ (n v k : ℕ) (h : Highest n v k) where
   -- no power above the k-th is at most v
@@ -64,11 +64,11 @@ module _ (n v k : ℕ) (h : Highest n v k) where
       ⊎-elim (λ (o : j < k). absurd (omega (arith, h .below s, next-power j, power-le (j + 1) k (omega arith)))) (λ (o : k ≤ j). omega (arith, no-higher j l p)) (lt-or-ge j k)
 
   pub is-numeric : 0 < k → v - 10 ^ k < 10 ^ k → record { value = v - 10 ^ k; count = k } ≡ numericOf (numericIn n (shortest 10 v))
-  is-numeric z u = go (numericIn n (shortest 10 v)) (numeric-settled n v)
+  is-numeric z u = go (numericIn n (shortest 10 v)) (numeric-decides n v)
     where
-      go : (a : Answer (List ℕ)) → Says n v a → record { value = v - 10 ^ k; count = k } ≡ numericOf a
-      go (refused m) s = absurd (s .1 (one-between n v .1 (k, z, h .most, h .below z, omega (arith, h .below z))))
-      go (taken ds) s =
+      go : (o : Option (List ℕ)) → Says n v o → record { value = v - 10 ^ k; count = k } ≡ numericOf o
+      go none s = absurd (s (one-between n v .1 (k, z, h .most, h .below z, omega (arith, h .below z))))
+      go (some ds) s =
           let (d, l, m, e) = s .1 in
           let is = one-then ds in
           let small = value-lt 10 ds d in
@@ -76,10 +76,10 @@ module _ (n v k : ℕ) (h : Highest n v k) where
           let rest : value 10 ds ≡ v - 10 ^ k = rw (← same) (omega arith) in
           rw (same, rest)
 
--- an answer of no digits is the refusal 19
-pub none-read : (n v : ℕ) → numericOf (numericIn n (shortest 10 v)) .count ≡ 0 → numericIn n (shortest 10 v) ≡ refused 19
-none-read n v = go (numericIn n (shortest 10 v)) (numeric-settled n v)
+-- where there are no digits, none are read
+pub none-read : (n v : ℕ) → numericOf (numericIn n (shortest 10 v)) .count ≡ 0 → numericIn n (shortest 10 v) ≡ none
+none-read n v = go (numericIn n (shortest 10 v)) (numeric-decides n v)
   where
-    go : (a : Answer (List ℕ)) → Says n v a → numericOf a .count ≡ 0 → a ≡ refused 19
-    go (refused m) s z = rw (s .0)
-    go (taken ds) s z = absurd (omega (arith, ltb→lt 0 (length ds) (s .1 .1)))
+    go : (o : Option (List ℕ)) → Says n v o → numericOf o .count ≡ 0 → o ≡ none
+    go none s z = refl
+    go (some ds) s z = absurd (omega (arith, ltb→lt 0 (length ds) (s .1 .1)))

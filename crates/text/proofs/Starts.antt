@@ -23,33 +23,33 @@ unfolding start
 twelve = refl
 
 module _ (t : List ℕ) where
-  pub no-start : after start t ≡ none → refusal 2 ≡ readingOf (tagOfText t)
+  pub no-start : after start t ≡ none → refusal 2 0 ≡ readingOf (tagOfText t)
   unfolding tagOfText
   no-start e = rw e
 
   module _ (begins : after start t ≡ some (drop 12 t)) (long : 12 ≤ length t) where
-    pub no-name : Unlisted ≡ namedAt 12 (drop 12 t) → refusal 3 ≡ readingOf (tagOfText t)
+    pub no-name : Unlisted ≡ namedAt 12 (drop 12 t) → refusal 3 12 ≡ readingOf (tagOfText t)
     unfolding tagOfText namedAt
     no-name e = go (named schemes (drop 12 t)) refl e
       where
-        go : (o : Option Named) → named schemes (drop 12 t) ≡ o → Unlisted ≡ namedBy 12 o → refusal 3 ≡ readingOf (tagOfText t)
-        go none q h = rw (begins, q)
+        go : (o : Option Named) → named schemes (drop 12 t) ≡ o → Unlisted ≡ namedBy 12 o → refusal 3 12 ≡ readingOf (tagOfText t)
+        go none q h = rw (begins, q, twelve)
         go (some c) q h = let x : _≡_ {A = ℕ} 0 1 = cc in absurd (omega arith)
 
-    pub name-is : (s : Scheme) (n : ℕ) → Is s n ≡ namedAt 12 (drop 12 t) → (named schemes (drop 12 t) ≡ some (record { scheme = s; rest = drop n t })) × (n ≤ length t)
+    pub name-is : (s : Scheme) (n : ℕ) → Is s n ≡ namedAt 12 (drop 12 t) → (named schemes (drop 12 t) ≡ some (record { scheme = s; rest = drop n t })) × (n ≡ 12 + length (label s)) × (n ≤ length t)
     unfolding namedAt
     name-is s n e = go (named schemes (drop 12 t)) refl (named-is schemes (drop 12 t)) e
       where
         go : (o : Option Named) → named schemes (drop 12 t) ≡ o → Gives (λ c. drop 12 t ≡ label (c .scheme) ++ c .rest) o → Is s n ≡ namedBy 12 o
-            → (named schemes (drop 12 t) ≡ some (record { scheme = s; rest = drop n t })) × (n ≤ length t)
+            → (named schemes (drop 12 t) ≡ some (record { scheme = s; rest = drop n t })) × (n ≡ 12 + length (label s)) × (n ≤ length t)
         go none q h b = let x : _≡_ {A = ℕ} 0 1 = cc in absurd (omega arith)
         go (some c) q h b =
             let k = length (label (c .scheme)) in
             let x : s ≡ c .scheme = cc in
             let y : n ≡ 12 + k = cc in
             let z : drop n t ≡ c .rest = ap (λ n. drop n t) y ∙ sym (drop-drop k 12 t) ∙ ap (drop k) h ∙ drop-at (label (c .scheme)) (c .rest) k refl in
-            (q ∙ (λ i. some (record { scheme = sym x i; rest = sym z i })), omega (arith, length-append (label (c .scheme)) (c .rest), ap length h, length-drop 12 t))
+            (q ∙ (λ i. some (record { scheme = sym x i; rest = sym z i })), rw x y, omega (arith, length-append (label (c .scheme)) (c .rest), ap length h, length-drop 12 t))
 
-    pub with-name : (s : Scheme) (v : List ℕ) → named schemes (drop 12 t) ≡ some (record { scheme = s; rest = v }) → readAs s (partsIn (layout s) v) ≡ readingOf (tagOfText t)
+    pub with-name : (s : Scheme) (n : ℕ) → Is s n ≡ namedAt 12 (drop 12 t) → readAs s (partsIn n (layout s) (drop n t)) ≡ readingOf (tagOfText t)
     unfolding tagOfText
-    with-name s v e = rw (begins, e)
+    with-name s n e = let (q, k, l) = name-is s n e in rw (begins, q, twelve, sym k)

@@ -18,6 +18,7 @@ use Rattle.text.specs.declared.reading.Head.{Head}
 abbrev pub taggedWith : Head → ℕ → ℕ → List ℕ → ℕ → Reading
 taggedWith h r n cs k = record {
   number = 0;
+  place = 0;
   tag = record {
     scheme = h .scheme;
     filter = h .filter;
@@ -36,23 +37,23 @@ tagged h r n cs k = taggedWith h r n (padded cs) k
 -- the same of digits that end the text, or their refusal
 abbrev pub endedBy : Head → ℕ → End → ℕ → Reading
 endedBy h r (Is v) k = tagged h r v [] k
-endedBy h r (Refused n) k = refusal n
+endedBy h r (Refused n p) k = refusal n p
 
 -- a reference with a dot behind it, and a last part
 abbrev pub referred : Form → Form → Layout
 referred f g = part reference f λ _. end last g
 
 abbrev pub withLast : Head → Last → Answer (List (List ℕ)) → Reading
-withLast h l (refused n) = refusal n
+withLast h l (refused n p) = refusal n p
 withLast h l (taken ps) = let p = partAt ps 1 in tagged h (valueAt ps 0) (lastNumber l p) (lastCharacters l p) (lastCount l p)
 
 -- a reference that ends the text: of A to D, or of E
 abbrev pub referenceAlone : Head → Answer (List (List ℕ)) → Reading
-referenceAlone h (refused n) = refusal n
+referenceAlone h (refused n p) = refusal n p
 referenceAlone h (taken ps) = tagged h (valueAt ps 0) 0 [] 0
 
 abbrev pub assetAlone : Head → Answer (List (List ℕ)) → Reading
-assetAlone h (refused n) = refusal n
+assetAlone h (refused n p) = refusal n p
 assetAlone h (taken ps) = tagged h 0 (valueAt ps 0) [] 0
 
 -- what follows the company prefix

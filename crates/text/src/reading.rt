@@ -1,4 +1,5 @@
-// A text to the record of its tag, read left to right (document 01, "Numbers given, and when": 2 to 8).
+// A text to the record of its tag, read left to right (document 01, "Numbers given, and when": 2 to 8), with
+// the place of a refusal: each reader says where it began (document 02, C-12).
 use parts::End;
 use parts::Form;
 use parts::Named;
@@ -62,6 +63,7 @@ fn tagged(
     let scheme = head.scheme;
     Reading {
         number: 0,
+        place: 0,
         tag: Record {
             scheme,
             filter: head.filter,
@@ -81,67 +83,71 @@ fn ended(head: Head, reference: u64, end: End, count: usize) -> Reading
 {
     match end {
         End::Is(serial) => tagged(head, reference, serial, [0; MOST_CHARACTERS], count),
-        End::Refused(n) => refused(n),
+        End::Refused(n, place) => refused(n, place),
     }
 }
 
 // A reference, then an integer.
 fn with_integer(text: &[u8], at: usize, head: Head, reference: Form, bits: usize) -> Reading
     requires { ⌜ (at ≤ length (now text)) × Short reference × (bits ≤ 63) ⌝ }
-    ensures { λ r. ⌜ r ≡ withLast head (Last.Integer bits) (partsIn (referred (formOf reference) (integer bits)) (drop at (now (text .entry)))) ⌝ }
+    ensures { λ r. ⌜ r ≡ withLast head (Last.Integer bits) (partsIn at (referred (formOf reference) (integer bits)) (drop at (now (text .entry)))) ⌝ }
 {
-    let Part::Is(value, _, next) = part_at(text, at, reference) else {
-        return refused(refusal::REFERENCE);
-    };
-    ended(head, value, integer_to_end(text, next, bits), 0)
+    match part_at(text, at, reference) {
+        Part::Is(value, _, next) => ended(head, value, integer_to_end(text, next, bits), 0),
+        Part::Wrong(place) => refused(refusal::REFERENCE, place),
+    }
 }
 
 // A reference, then a string.
 fn with_string(text: &[u8], at: usize, head: Head, reference: Form, bits: usize) -> Reading
     requires { ⌜ (at ≤ length (now text)) × Short reference ⌝ }
-    ensures { λ r. ⌜ r ≡ withLast head (Last.String bits) (partsIn (referred (formOf reference) (string bits)) (drop at (now (text .entry)))) ⌝ }
+    ensures { λ r. ⌜ r ≡ withLast head (Last.String bits) (partsIn at (referred (formOf reference) (string bits)) (drop at (now (text .entry)))) ⌝ }
 {
-    let Part::Is(value, _, next) = part_at(text, at, reference) else {
-        return refused(refusal::REFERENCE);
-    };
-    let s = alphabet::read(text, next);
-    if s.count == 0 {
-        return refused(refusal::LAST_PART_FORM);
+    match part_at(text, at, reference) {
+        Part::Is(value, _, next) => {
+            let s = alphabet::read(text, next);
+            if s.count == 0 {
+                return refused(refusal::LAST_PART_FORM, next);
+            }
+            if bits / 7 < s.count {
+                return refused(refusal::LAST_PART_SIZE, next);
+            }
+            let characters = s.characters;
+            tagged(head, value, 0, characters, s.count)
+        }
+        Part::Wrong(place) => refused(refusal::REFERENCE, place),
     }
-    if bits / 7 < s.count {
-        return refused(refusal::LAST_PART_SIZE);
-    }
-    let characters = s.characters;
-    tagged(head, value, 0, characters, s.count)
 }
 
 // A reference, then a numeric string of at most so many digits. It has as many as the rest of the text has bytes.
 fn with_numeric(text: &[u8], at: usize, head: Head, reference: Form, most: usize) -> Reading
     requires { ⌜ (at ≤ length (now text)) × Short reference × (most ≤ 19) ⌝ }
-    ensures { λ r. ⌜ r ≡ withLast head (Last.Numeric 0 most) (partsIn (referred (formOf reference) (numeric 0 most)) (drop at (now (text .entry)))) ⌝ }
+    ensures { λ r. ⌜ r ≡ withLast head (Last.Numeric 0 most) (partsIn at (referred (formOf reference) (numeric 0 most)) (drop at (now (text .entry)))) ⌝ }
 {
-    let Part::Is(value, _, next) = part_at(text, at, reference) else {
-        return refused(refusal::REFERENCE);
-    };
-    let end = numeric_to_end(text, next, most);
-    ended(head, value, end, text.len() - next)
+    match part_at(text, at, reference) {
+        Part::Is(value, _, next) => {
+            let end = numeric_to_end(text, next, most);
+            ended(head, value, end, text.len() - next)
+        }
+        Part::Wrong(place) => refused(refusal::REFERENCE, place),
+    }
 }
 
 // A reference of so many digits, to the end of the text.
 fn reference_alone(text: &[u8], at: usize, head: Head, reference: usize) -> Reading
     requires { ⌜ (at ≤ length (now text)) × (reference ≤ 19) ⌝ }
-    ensures { λ r. ⌜ r ≡ referenceAlone head (partsIn (end referenceRole (digits 0 reference)) (drop at (now (text .entry)))) ⌝ }
+    ensures { λ r. ⌜ r ≡ referenceAlone head (partsIn at (end referenceRole (digits 0 reference)) (drop at (now (text .entry)))) ⌝ }
 {
     match digits_to_end(text, at, reference) {
         End::Is(value) => tagged(head, value, 0, [0; MOST_CHARACTERS], 0),
-        End::Refused(n) => refused(n),
+        End::Refused(n, place) => refused(n, place),
     }
 }
 
 // The reference of table E, an integer, to the end of the text.
 fn asset_alone(text: &[u8], at: usize, head: Head, bits: usize) -> Reading
     requires { ⌜ (at ≤ length (now text)) × (bits ≤ 63) ⌝ }
-    ensures { λ r. ⌜ r ≡ assetAlone head (partsIn (end last (integer bits)) (drop at (now (text .entry)))) ⌝ }
+    ensures { λ r. ⌜ r ≡ assetAlone head (partsIn at (end last (integer bits)) (drop at (now (text .entry)))) ⌝ }
 {
     ended(head, 0, integer_to_end(text, at, bits), 0)
 }
@@ -170,7 +176,7 @@ fn reference_form(t: Table, n: usize) -> Form
 // What follows the company prefix.
 fn behind_prefix(text: &[u8], at: usize, head: Head, body: Body) -> Reading
     requires { ⌜ (at ≤ length (now text)) × Narrow (Parts.F body) × (6 ≤ head .digits) × (head .digits ≤ 12) ⌝ }
-    ensures { λ r. ⌜ r ≡ behindPrefix head body (partsIn (bodyLayout body (head .digits)) (drop at (now (text .entry)))) ⌝ }
+    ensures { λ r. ⌜ r ≡ behindPrefix head body (partsIn at (bodyLayout body (head .digits)) (drop at (now (text .entry)))) ⌝ }
 {
     let digits = head.digits;
     match body {
@@ -190,44 +196,48 @@ fn behind_prefix(text: &[u8], at: usize, head: Head, body: Body) -> Reading
 // gid-96: three integers.
 fn general(text: &[u8], at: usize, s: Scheme, a: usize, b: usize, c: usize) -> Reading
     requires { ⌜ (at ≤ length (now text)) × (aboutOf s .parts ≡ Parts.Integers a b c) ⌝ }
-    ensures { λ r. ⌜ r ≡ readAs s (partsIn (layout s) (drop at (now (text .entry)))) ⌝ }
+    ensures { λ r. ⌜ r ≡ readAs s (partsIn at (layout s) (drop at (now (text .entry)))) ⌝ }
 {
-    let Part::Is(prefix, _, next) = part_at(text, at, Form::Integer(a)) else {
-        return refused(refusal::PREFIX);
-    };
-    let head = Head {
-        scheme: s,
-        filter: 0,
-        prefix,
-        digits: 0,
-    };
-    with_integer(text, next, head, Form::Integer(b), c)
+    match part_at(text, at, Form::Integer(a)) {
+        Part::Is(prefix, _, next) => {
+            let head = Head {
+                scheme: s,
+                filter: 0,
+                prefix,
+                digits: 0,
+            };
+            with_integer(text, next, head, Form::Integer(b), c)
+        }
+        Part::Wrong(place) => refused(refusal::PREFIX, place),
+    }
 }
 
 // The other schemes: the filter, the company prefix, and what follows it.
 fn partitioned(text: &[u8], at: usize, s: Scheme, body: Body) -> Reading
     requires { ⌜ (at ≤ length (now text)) × (aboutOf s .parts ≡ Parts.F body) ⌝ }
-    ensures { λ r. ⌜ r ≡ readAs s (partsIn (layout s) (drop at (now (text .entry)))) ⌝ }
+    ensures { λ r. ⌜ r ≡ readAs s (partsIn at (layout s) (drop at (now (text .entry)))) ⌝ }
 {
-    let Part::Is(filter, _, behind) = part_at(text, at, Form::Integer(3)) else {
-        return refused(refusal::FILTER);
-    };
-    let Part::Is(prefix, digits, next) = part_at(text, behind, Form::Prefix) else {
-        return refused(refusal::PREFIX);
-    };
-    let head = Head {
-        scheme: s,
-        filter,
-        prefix,
-        digits,
-    };
-    behind_prefix(text, next, head, body)
+    match part_at(text, at, Form::Integer(3)) {
+        Part::Is(filter, _, behind) => match part_at(text, behind, Form::Prefix) {
+            Part::Is(prefix, digits, next) => {
+                let head = Head {
+                    scheme: s,
+                    filter,
+                    prefix,
+                    digits,
+                };
+                behind_prefix(text, next, head, body)
+            }
+            Part::Wrong(place) => refused(refusal::PREFIX, place),
+        },
+        Part::Wrong(place) => refused(refusal::FILTER, place),
+    }
 }
 
 // The parts of a scheme, from index `at` on.
 fn parts_at(text: &[u8], at: usize, s: Scheme) -> Reading
     requires { ⌜ at ≤ length (now text) ⌝ }
-    ensures { λ r. ⌜ r ≡ readAs s (partsIn (layout s) (drop at (now (text .entry)))) ⌝ }
+    ensures { λ r. ⌜ r ≡ readAs s (partsIn at (layout s) (drop at (now (text .entry)))) ⌝ }
 {
     let p = about(s).parts;
     match p {
@@ -241,10 +251,10 @@ pub fn read(text: &[u8]) -> Reading
     ensures { λ r. ⌜ r ≡ readingOf (tagOfText (now (text .entry))) ⌝ }
 {
     if !begins(text) {
-        return refused(refusal::START);
+        return refused(refusal::START, 0);
     }
     match name(text, START) {
         Named::Is(s, next) => parts_at(text, next, s),
-        Named::Unlisted => refused(refusal::NAME),
+        Named::Unlisted => refused(refusal::NAME, START),
     }
 }

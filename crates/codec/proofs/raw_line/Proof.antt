@@ -24,7 +24,7 @@ refused c =
     let x = w .before .before .before .before .args in
     let b = x .bank .now in
     let e = is-refused (wordsIn b) (w .words .result) (w .words .ensures) (c .if2 .taken) in
-    refuses textRoom (x .out .now) (w .before .if1 .left) (w .words .result .number) (rawOfBank b) (raw-refused b (w .words .result .number) e)
+    refuses textRoom (x .out .now) (w .before .if1 .left) (w .words .result .number) (w .words .result .place) (rawOfBank b) (raw-refused b (w .words .result .number) (w .words .result .place) e)
 
 -- the words are there
 there : (c : tie.Else2) → let w = c .before .before in wordsIn (w .before .before .before .before .args .bank .now) ≡ taken (w .words .result .words)

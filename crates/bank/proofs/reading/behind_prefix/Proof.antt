@@ -2,6 +2,7 @@
 use Prim.Native.Nat.{_+_}
 use mathlib.Core.Path.{_≡_, refl, ap, _∙_}
 use mathlib.Core.Logic.{_⊎_, ⊎-elim, inl, inr}
+use native.Mathlib.Omega.{arith}
 use borrow.Author.Needs.{needs}
 use denote.Ref.{now}
 use Rattle.fields.specs.BitReaders.{codeField}
@@ -29,13 +30,19 @@ module _ (c : tie.After-take) where
       let w = shape .shape-in .result .cell .bits in
       behind (now (begin .args .bank)) (begin .args .at) w (c .take .ensures) ∙ ap (_+ w) (begin .pre .1)
 
+reference-at : tie.Need-refused-at-requires
+reference-at c κs =
+    let t = c .before .before .before in
+    let s = begin t in
+    omega (arith, reference-lies _ _ _ _ (s .pre .0) _ (s .pre .1) _ (shape t .shape-in .ensures) .small)
+
 large-reference : tie.Need-returns
 large-reference c =
     let test = c .before in
     let power = test .before .before in
     let t = power .before in
     let s = begin t in
-    refuses (c .refused .ensures) (large _ _ _ _ (s .pre .0) _ (s .pre .1) _ (shape t .shape-in .ensures) _ _ (power .power .ensures) (reference-is t) (test .if1 .taken))
+    refuses (c .refused-at .ensures) refl (large _ _ _ _ (s .pre .0) _ (s .pre .1) _ (shape t .shape-in .ensures) _ _ (power .power .ensures) (reference-is t) (test .if1 .taken))
 
 -- what stands behind a reference that is not too large
 module _ (c : tie.Else1) where
@@ -61,13 +68,18 @@ count-requires c κs =
     let small = groups .before .before .before in
     groups-within _ _ _ _ _ _ (small-reference small) _ (last-at (read small)) _ (groups .groups .ensures)
 
+string-at : tie.Need-refused-at-requires-2
+string-at c κs =
+    let small = c .before .before .before .before .before .before .before .before in
+    omega (arith, serial-lies _ _ _ _ _ _ (small-reference small) _ (last-at (read small)) .small)
+
 wrong-string : tie.Need-returns-3
 wrong-string c =
     let none = c .before .before .before in
     let counted = none .before in
     let groups = counted .before .before in
     let small = groups .before .before .before in
-    refuses (c .refused2 .ensures)
+    refuses (c .refused-at2 .ensures) refl
     (wrong _ _ _ _ _ _ (small-reference small) _ (last-at (read small)) _ (groups .groups .ensures) _ (counted .count .ensures) (none .if3 .taken) (c .before .if4 .taken))
 
 -- a string has characters, and where there is none there are no groups
@@ -97,14 +109,14 @@ behind-prefix-spec =
     (λ c κs. let s = c .before in listed _ _ _ _ (s .pre .0) _ (s .pre .1))
     (λ c κs. let s = c .before .before in reference-lies _ _ _ _ (s .pre .0) _ (s .pre .1) _ (c .shape-in .ensures))
     (λ c κs. let s = begin c in room _ _ _ _ (s .pre .0) _ (s .pre .1) _ (shape c .shape-in .ensures) .digits)
-    (λ c κs. search needs)
+    reference-at
     large-reference
     numeric-behind-requires
     (λ c. search needs)
     groups-requires
     (λ c. search needs)
     count-requires
-    (λ c κs. search needs)
+    string-at
     wrong-string
     serial-requires
     right-string)

@@ -1,7 +1,7 @@
 -- The tests are those of the rules 13 to 15; past them the words are a code of the scheme that the header names.
-use mathlib.Core.Path.{_≡_, refl}
+use mathlib.Core.Path.{_≡_, refl, ap}
 use mathlib.Core.List.{List}
-use Prim.Native.Nat.{ℕ, _-_, _*_}
+use Prim.Native.Nat.{ℕ, _+_, _-_, _*_, _^_, _≤_, _<_}
 use native.Mathlib.Omega.{arith}
 use borrow.Author.Needs.{needs}
 use denote.Ref.{now}
@@ -14,6 +14,7 @@ use Rattle.bank.specs.Reading.{Coded}
 use Rattle.bank.proofs.Answers.{refuses}
 use Rattle.bank.proofs.Headers.{Ended, header-lies, no-scheme, wrong-words, ended, not-zero, coded}
 use Rattle.fields.proofs.Steps.{behind, taken}
+use Rattle.fields.proofs.Zeros.{zeros-within}
 use Rattle.bank.proofs.reading.coded.Statement.{statement}
 use Rattle.bank.proofs.reading.coded.Tie as tie
 
@@ -30,7 +31,7 @@ unlisted : tie.Need-returns
 unlisted c =
     let call = c .before .before .before in
     let read = call .before .before in
-    refuses (c .refused .ensures) (no-scheme _ _ (read .before .before .pre) _ (header-is read) _ (call .by-header .ensures) (c .before .enum-told .given .1))
+    refuses (c .refused-at .ensures) refl (no-scheme _ _ (read .before .before .pre) _ (header-is read) _ (call .by-header .ensures) (c .before .enum-told .given .1))
 
 other-words : tie.Need-returns-2
 other-words c =
@@ -38,7 +39,7 @@ other-words c =
     let is = outline .before .before in
     let call = is .before .before in
     let read = call .before .before in
-    refuses (c .refused2 .ensures) (wrong-words _ _ (read .before .before .pre) _ (header-is read) _ (call .by-header .ensures) _ (is .s .given .1) _ (outline .about .ensures) (c .before .if1 .taken))
+    refuses (c .refused .ensures) refl (wrong-words _ _ (read .before .before .pre) _ (header-is read) _ (call .by-header .ensures) _ (is .s .given .1) _ (outline .about .ensures) (c .before .if1 .taken))
 
 module _ (c : tie.After-zeros) where
   abbrev test : tie.Else1
@@ -70,20 +71,42 @@ rest-is : (c : tie.After-take2) → let z = c .before .before in
     c .take2 .result .value ≡ codeField (now (begin z .args .bank)) (outline z .about .result .bits - z .zeros .result) (16 * begin z .args .words - (outline z .about .result .bits - z .zeros .result))
 rest-is c = let z = c .before .before in taken (now (begin z .args .bank)) (record { 0 = outline z .about .result .bits - z .zeros .result }) _ (c .take2 .ensures) _ refl
 
+some-one : tie.Need-zeros-before-requires
+some-one c κs =
+    let t = c .before in
+    let z = t .before .before in
+    let b = now (begin z .args .bank) in
+    let v = t .take2 .result .value in
+    let width = 16 * begin z .args .words - (outline z .about .result .bits - z .zeros .result) in
+    let small : v < 2 ^ width = rw (rest-is t) (at-lt b (0x20 + (outline z .about .result .bits - z .zeros .result)) width) in
+    (omega (arith, c .if2 .taken), small, after z .narrow)
+
+-- the first one stands within the code
+one-within : (c : tie.After-zeros-before) → let z = c .before .before .before .before in outline z .about .result .bits - z .zeros .result + c .zeros-before .result ≤ 496
+one-within c =
+    let t = c .before .before in
+    let z = t .before .before in
+    omega (arith, after z, c .zeros-before .ensures, zeros-within (t .take2 .result .value) (16 * begin z .args .words - (outline z .about .result .bits - z .zeros .result)))
+
+one-at : (c : tie.After-behind) → let z = c .before .before .before .before .before in c .behind .result .0 ≡ outline z .about .result .bits - z .zeros .result + c .before .zeros-before .result
+one-at c = ap (λ b. b .0) (c .behind .ensures)
+
 one-after : tie.Need-returns-3
 one-after c =
-    let t = c .before .before .before in
+    let one = c .before .before in
+    let t = one .before .before in
     let z = t .before .before in
-    refuses (c .refused3 .ensures)
-    (not-zero _ _ (begin z .pre) _ (header-is (read z)) _ (call z .by-header .ensures) _ (is z .s .given .1) _ (outline z .about .ensures) (test z .if1 .left) _ (z .zeros .ensures) _ (rest-is t) (c .before .if2 .taken))
+    refuses (c .refused-at2 .ensures)
+    (omega (arith, one-at (c .before), one .zeros-before .ensures))
+    (not-zero _ _ (begin z .pre) _ (header-is (read z)) _ (call z .by-header .ensures) _ (is z .s .given .1) _ (outline z .about .ensures) (test z .if1 .left) _ (z .zeros .ensures) _ (rest-is t) (one .before .if2 .taken))
 
 module _ (c : tie.Else2) where
   abbrev z : tie.After-zeros
-  z = c .before .before .before .before
+  z = c .before .before .before
 
   in-code : Coded (now (begin z .args .bank)) (is z .s .given .0 .0) (outline z .about .result .parts)
   in-code =
-      coded _ _ (begin z .pre) _ (header-is (read z)) _ (call z .by-header .ensures) _ (is z .s .given .1) _ (outline z .about .ensures) (test z .if1 .left) _ (z .zeros .ensures) _ (rest-is (c .before .before)) (c .if2 .left)
+      coded _ _ (begin z .pre) _ (header-is (read z)) _ (call z .by-header .ensures) _ (is z .s .given .1) _ (outline z .about .ensures) (test z .if1 .left) _ (z .zeros .ensures) _ (rest-is (c .before)) (c .if2 .left)
 
   parts-at : read z .take .result .at .0 ≡ 8
   parts-at = behind (now (begin z .args .bank)) (record { 0 = 0 }) 8 (read z .take .ensures)
@@ -107,7 +130,9 @@ coded-spec =
     (λ c. omega (arith, after (c .before)))
     (λ c. after (c .before) .inside)
     rest-lies
-    (λ c κs. search needs)
+    some-one
+    (λ c κs. omega (arith, one-within c))
+    (λ c κs. omega (arith, one-at c, one-within (c .before)))
     one-after
     (λ c. search needs)
     (λ c κs. let e = c .before .before .before in (coded-as _ _ _ _ (c .before .p .given .1) (in-code e), parts-at e))

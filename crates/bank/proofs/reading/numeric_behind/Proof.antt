@@ -1,5 +1,6 @@
 -- The numeric string is read where the reference ends: no digits are rule 19, and any others are the record's.
 use mathlib.Core.Path.{_≡_, refl, ap, _∙_}
+use native.Mathlib.Omega.{arith}
 use borrow.Author.Needs.{needs}
 use denote.Ref.{now}
 use Rattle.numeral.specs.Numeral.{shortest}
@@ -23,12 +24,15 @@ digits-are c =
     let s = c .before .before .before .args in
     c .behind-one .ensures ∙ ap (λ v. numericOf (numericIn (s .shape .most) (shortest 10 v))) (taken (now (s .bank)) (s .at) (s .shape .serial) (c .before .take .ensures) _ refl)
 
+string-at : tie.Need-refused-at-requires
+string-at c κs = let s = c .before .before .before .before .before in omega (arith, serial-lies _ _ _ _ _ _ (s .pre .0) _ (s .pre .1) .small)
+
 refused : tie.Need-returns
 refused c =
     let test = c .before in
     let one = test .before .before in
     let s = one .before .before .before in
-    refuses (c .refused .ensures) (no-digits _ _ _ _ _ _ (s .pre .0) _ (s .pre .1) (s .pre .2) _ (digits-are one) (test .if1 .taken))
+    refuses (c .refused-at .ensures) refl (no-digits _ _ _ _ _ _ (s .pre .0) _ (s .pre .1) (s .pre .2) _ (digits-are one) (test .if1 .taken))
 
 digits : tie.Need-returns-2
 digits c =
@@ -37,4 +41,4 @@ digits c =
     some-digits _ _ _ _ _ _ (s .pre .0) _ (s .pre .1) (s .pre .2) _ (digits-are one) (c .if1 .left)
 
 pub numeric-behind-spec : {M : Type 1} → statement M
-numeric-behind-spec = tie.close (tie.spec take-requires behind-one-requires (λ c κs. search needs) refused digits)
+numeric-behind-spec = tie.close (tie.spec take-requires behind-one-requires string-at refused digits)

@@ -44,7 +44,7 @@ row-7 : tie.Need-returns
 row-7 c =
     let read = c .before .before in
     let s = read .before .before .before in
-    refuses (c .refused .ensures) (no-row _ _ _ (s .pre .0) _ (partition-is read) (c .before .if1 .taken))
+    refuses (c .refused-at .ensures) (omega (arith, partition-at (read .before))) (no-row _ _ _ (s .pre .0) _ (partition-is read) (c .before .if1 .taken))
 
 prefix-requires : tie.Need-prefix-requires
 prefix-requires c κs =
@@ -70,7 +70,7 @@ prefix-too-large c =
     let cell = power .before .before in
     let read = cell .before .before in
     let s = read .before .before .before in
-    refuses (c .refused2 .ensures)
+    refuses (c .refused-at2 .ensures) (omega (arith, prefix-at read))
     (large-prefix _ _ _ (s .pre .0) _ (partition-is read) (cell .before .if1 .left) _ (cell .prefix .ensures) _ _ (prefix-is (power .before)) (power .power .ensures) (c .before .if2 .taken))
 
 behind-prefix-requires : tie.Need-behind-prefix-requires
@@ -91,12 +91,12 @@ partitioned-spec =
     (tie.spec
     filter-lies
     partition-lies
-    (λ c κs. search needs)
+    (λ c κs. omega (arith, partition-at (c .before .before)))
     row-7
     prefix-requires
     take-prefix
     power-requires
-    (λ c κs. search needs)
+    (λ c κs. omega (arith, prefix-at (c .before .before .before .before .before .before)))
     prefix-too-large
     behind-prefix-requires
     (λ c. search needs))

@@ -1,5 +1,5 @@
 -- The control word is refused by one of its rules, or the code is read.
-use mathlib.Core.Path.{_≡_}
+use mathlib.Core.Path.{_≡_, refl}
 use borrow.Author.Needs.{needs}
 use denote.Ref.{now}
 use Rattle.rules.specs.Answers.{refused}
@@ -16,9 +16,9 @@ control-refused c =
     let w = c .before .before in
     let b = now (w .before .before .args .bank) in
     let n = w .clean .result .number in
-    let e : controlIn b ≡ refused n = is-refused (controlIn b) (w .clean .result) (w .clean .ensures) (c .before .if1 .taken) in
-    let t : tagOfBank b ≡ refused n = rw e in
-    refuses (c .refused .ensures) t
+    let e : controlIn b ≡ refused n (w .clean .result .place) = is-refused (controlIn b) (w .clean .result) (w .clean .ensures) (c .before .if1 .taken) in
+    let t : tagOfBank b ≡ refused n (w .clean .result .place) = rw e in
+    refuses (c .refused .ensures) refl t
 
 coded-requires : tie.Need-coded-requires
 coded-requires c κs =

@@ -40,7 +40,7 @@ returns-2 c =
     let a = s .before .before .before .before .before .before in
     let x = a .before .args in
     let e = called s _ (c .before .n .given .1) in
-    (not-written (x .text .now) (x .bank .now) (x .out .now) _ (s .before .before .text-to-bank .last .1 .0) e, ap (λ c. c .output) (s .before .before .text-to-bank .ensures))
+    (not-written (x .text .now) (x .bank .now) (x .out .now) _ (s .before .before .text-to-bank .last .1 .0) _ e, ap (λ c. c .output) (s .before .before .text-to-bank .ensures))
 
 pub show-again-spec : {M : Type 1} → statement M
 show-again-spec =

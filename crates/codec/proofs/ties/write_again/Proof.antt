@@ -44,7 +44,7 @@ returns-2 c =
     let x = a .before .args in
     let d = digits-of 256 (x .bank .now) λ i h. a .shared-slice-known .given i .fits in
     let e = called s _ (c .before .number .given .1) in
-    (not-shown (x .bank .now) (x .text .now) (x .out .now) d _ (s .before .before .bank-to-text .last .1 .0) e, ap (λ c. c .output) (s .before .before .bank-to-text .ensures))
+    (not-shown (x .bank .now) (x .text .now) (x .out .now) d _ (s .before .before .bank-to-text .last .1 .0) _ e, ap (λ c. c .output) (s .before .before .bank-to-text .ensures))
 
 pub write-again-spec : {M : Type 1} → statement M
 write-again-spec =

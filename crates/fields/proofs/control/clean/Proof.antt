@@ -12,7 +12,7 @@ toggle c =
     let read = c .before .before in
     let known = read .before in
     let w = known .before .before in
-    refuses _ 11 _ (c .refused .ensures) (toggled (now (w .before .before .args .bank)) _ (w .words .ensures) (known .if1 .left) λ e. c .before .if2 .taken (read .field-at .ensures ∙ e))
+    refuses _ 11 _ _ (c .refused .ensures) (toggled (now (w .before .before .args .bank)) _ (w .words .ensures) (known .if1 .left) λ e. c .before .if2 .taken (read .field-at .ensures ∙ e))
 
 control : tie.Need-returns-3
 control c =
@@ -20,7 +20,7 @@ control c =
     let toggle = read .before in
     let known = toggle .before .before in
     let w = known .before .before in
-    refuses _ 12 _ (c .refused2 .ensures)
+    refuses _ 12 _ _ (c .refused2 .ensures)
     (control-bits (now (w .before .before .args .bank)) _ (w .words .ensures) (known .if1 .left) (sym (toggle .before .field-at .ensures) ∙ toggle .if2 .left) λ e. c .before .if3 .taken (read .field-at2 .ensures ∙ e))
 
 attributes : tie.Need-returns-4
@@ -30,7 +30,7 @@ attributes c =
     let toggle = control .before .before in
     let known = toggle .before .before in
     let w = known .before .before in
-    refuses _ 12 _ (c .refused3 .ensures)
+    refuses _ 12 _ _ (c .refused3 .ensures)
     (attribute-bits (now (w .before .before .args .bank)) _ (w .words .ensures) (known .if1 .left) (sym (toggle .before .field-at .ensures) ∙ toggle .if2 .left) (sym (control .before .field-at2 .ensures) ∙ control .if3 .left) λ e. c .before .if4 .taken (read .field-at3 .ensures ∙ e))
 
 ordered : tie.Need-returns-5

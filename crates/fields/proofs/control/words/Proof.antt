@@ -15,11 +15,11 @@ words-spec =
     tie.close
     (tie.spec
     (λ c κs. search needs)
-    (λ c. refuses _ 9 _ (c .refused .ensures) (no-bytes (now (c .before .before .before .args .bank)) (c .before .if1 .taken)))
+    (λ c. refuses _ 9 _ _ (c .refused .ensures) (no-bytes (now (c .before .before .before .args .bank)) (c .before .if1 .taken)))
     (λ c κs. search needs)
     (λ c κs. few-words (now (c .before .before .before .args .bank)) (search needs) _ (c .field-at .ensures))
     (λ c κs. search needs)
-    (λ c. refuses _ 9 _ (c .refused2 .ensures) (few-bytes (now (c .before .before .before .before .before .before .args .bank)) (search needs) _ (c .before .before .before .field-at .ensures) (search needs)))
+    (λ c. refuses _ 9 _ _ (c .refused2 .ensures) (few-bytes (now (c .before .before .before .before .before .before .args .bank)) (search needs) _ (c .before .before .before .field-at .ensures) (search needs)))
     (λ c κs. search needs)
-    (λ c. refuses _ 10 _ (c .refused3 .ensures) (no-words (now (c .before .before .before .before .before .before .before .args .bank)) (search needs) _ (c .before .before .before .before .field-at .ensures) (search needs) (c .before .if3 .taken)))
+    (λ c. refuses _ 10 _ _ (c .refused3 .ensures) (no-words (now (c .before .before .before .before .before .before .before .args .bank)) (search needs) _ (c .before .before .before .before .field-at .ensures) (search needs) (c .before .if3 .taken)))
     counted)

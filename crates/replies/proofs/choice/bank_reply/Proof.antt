@@ -6,9 +6,8 @@ use native.Mathlib.Omega.{arith}
 use lib.ListN.{length, set, length-set}
 use borrow.Author.Needs.{needs}
 use borrow.Rule.Slice.PartMut.{putMid}
-use Rattle.rules.specs.Answers.{refused}
 use Rattle.rules.specs.BankNumbers.{tagOfBank}
-use Rattle.replies.specs.Replies.{space, ofBank}
+use Rattle.replies.specs.Replies.{space, ofBank, RefusedWith}
 use Rattle.replies.specs.Writing.{Wrote}
 use Rattle.replies.proofs.Screens.{text-shown, text-hidden}
 use Rattle.replies.proofs.choice.bank_reply.Statement.{statement}
@@ -29,12 +28,12 @@ shown c =
 hidden : (c : tie.After-known-told2) → let n = c .before .number .given .0 .0 in
     let e = c .before .before .before .before .before .bank-to-text .last .1 .0 in
     let s = c .before .before .before .before .before .before .before .before .before in
-    (tagOfBank (s .args .bank .now) ≡ refused n) × (putMid 2 (length (s .args .out .now) - 2) (s .args .out .now) e ≡ s .args .out .now)
+    RefusedWith (s .args .bank .now) n × (putMid 2 (length (s .args .out .now) - 2) (s .args .out .now) e ≡ s .args .out .now)
 hidden c =
     let n = c .before .number in
     let text = c .before .before .before .before .before .bank-to-text in
     let s = c .before .before .before .before .before .before .before .before .before in
-    text-hidden (s .args .bank .now) (s .args .out .now) (text .last .1 .0) (n .given .0 .0) (s .pre) (rw (n .given .1) at (text .ensures))
+    text-hidden (s .args .bank .now) (s .args .out .now) (text .last .1 .0) (n .given .0 .0) (s .pre) _ (rw (n .given .1) at (text .ensures))
 
 refused-reply-requires : tie.Need-refused-reply-requires
 refused-reply-requires c κs =
@@ -45,7 +44,7 @@ refused-reply-requires c κs =
 returns-2 : tie.Need-returns-2
 returns-2 c =
     let (a, e) = hidden (c .before .before .before .before) in
-    rw a (rw e at (c .before .before .refused-reply .ensures))
+    rw e at (c .before .before .refused-reply .ensures)
 
 pub bank-reply-spec : {M : Type 1} → statement M
 bank-reply-spec =

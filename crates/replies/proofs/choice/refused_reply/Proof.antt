@@ -4,7 +4,7 @@ use mathlib.Core.Path.{_≡_, _∙_}
 use native.Mathlib.Omega.{arith}
 use lib.ListN.{set, length-set}
 use borrow.Author.Needs.{needs}
-use Rattle.rules.specs.Answers.{refused}
+use Rattle.rules.specs.BankNumbers.{tagOfBank}
 use Rattle.replies.specs.Replies.{space, ofBank}
 use Rattle.replies.specs.Writing.{Wrote, afterNumber}
 use Rattle.replies.proofs.Screens.{raw-shown, raw-hidden}
@@ -15,7 +15,7 @@ use Rattle.replies.proofs.choice.refused_reply.Tie as tie
 shown : (c : tie.After-slice-known3) → let put = c .before .before .put-number in
     let n = c .before .before .before .before .before .n .given .0 .0 in
     let s = c .before .before .before .before .before .before .before .before .before .before .before .before .before in
-    (n ≤ 145) × (put .result ≡ 4) × Wrote (ofBank (s .args .bank .now) (refused (s .args .number))) (s .args .out .now) (n + afterNumber) (set (put .last .1 .1 .0) (put .result) space)
+    (n ≤ 145) × (put .result ≡ 4) × Wrote (ofBank (s .args .bank .now) (tagOfBank (s .args .bank .now))) (s .args .out .now) (n + afterNumber) (set (put .last .1 .1 .0) (put .result) space)
 shown c =
     let put = c .before .before .put-number in
     let n = c .before .before .before .before .before .n in
@@ -33,7 +33,7 @@ hidden c =
     let told = c .before .before .before .before .enum-told in
     let raw = c .before .before .before .before .before .before .before .before .raw-line in
     let s = c .before .before .before .before .before .before .before .before .before .before .before .before in
-    raw-hidden (s .args .bank .now) (s .args .out .now) (raw .last .1 .0) _ (s .pre .1) (s .args .number) (put .result) (put .last .1 .1 .0) (s .pre .0)
+    raw-hidden (s .args .bank .now) (s .args .out .now) (raw .last .1 .0) _ (s .pre .1) (s .args .number) (put .result) (put .last .1 .1 .0) (s .pre .0) _
     (rw (told .given .1) at (raw .ensures)) (put .ensures)
 
 pub refused-reply-spec : {M : Type 1} → statement M

@@ -47,7 +47,7 @@ refused c =
     let b = c .before .before .before .before .before .before .before .before in
     let s = b .before .before .before .before .before in
     let n = c .before .before .before .before .before .number in
-    let e = text-refused (s .args .line .now) _ (b .text-to-bank .last .1 .0) (n .given .0 .0) (lit≤ tt) (rw (n .given .1) at (b .text-to-bank .ensures)) in
+    let e = text-refused (s .args .line .now) _ (b .text-to-bank .last .1 .0) (n .given .0 .0) (lit≤ tt) _ (rw (n .given .1) at (b .text-to-bank .ensures)) in
     rw (le-leb (length (s .args .line .now)) mostCharacters (b .before .before .if1 .left), e) (c .before .before .put-number .ensures)
 
 pub text-reply-spec : {M : Type 1} → statement M

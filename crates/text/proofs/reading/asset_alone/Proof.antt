@@ -12,7 +12,7 @@ returns : tie.Need-returns
 returns c =
     let l = c .before in
     let x = l .before .before .args in
-    c .ended .ensures ∙ asset (x .head) (lastIn 7 (integer (x .bits)) (drop (x .at) (x .text .now))) _ (l .integer-to-end .ensures)
+    c .ended .ensures ∙ asset (x .head) (lastIn 7 (x .at) (integer (x .bits)) (drop (x .at) (x .text .now))) _ (l .integer-to-end .ensures)
 
 pub asset-alone-spec : {M : Type 1} → statement M
 asset-alone-spec = tie.close (tie.spec (λ c κs. search needs) (λ c κs. search needs) returns)

@@ -43,13 +43,13 @@ of-row : (form : tie.After-reference-form) (l : Last) (g : Form)
     → let body = form .before .before .before in
     let t = body .body .given .0 .0 in
     let x = body .before .before .before .args in
-    withLast (x .head) l (partsIn (referred (formOf (form .reference-form .result)) g) (drop (x .at) (x .text .now)))
-    ≡ withLast (x .head) l (partsIn (referred (counted t (cell t (rowOf (x .head .digits)) .0) (form .before .reference-digits .result)) g) (drop (x .at) (x .text .now)))
+    withLast (x .head) l (partsIn (x .at) (referred (formOf (form .reference-form .result)) g) (drop (x .at) (x .text .now)))
+    ≡ withLast (x .head) l (partsIn (x .at) (referred (counted t (cell t (rowOf (x .head .digits)) .0) (form .before .reference-digits .result)) g) (drop (x .at) (x .text .now)))
 of-row form l g =
     let body = form .before .before .before in
     let t = body .body .given .0 .0 in
     let x = body .before .before .before .args in
-    row-behind (x .head) l t (cell t (rowOf (x .head .digits)) .0) (form .before .reference-digits .result) (formOf (form .reference-form .result)) g (drop (x .at) (x .text .now)) (form .reference-form .ensures .0)
+    row-behind (x .head) l t (x .at) (cell t (rowOf (x .head .digits)) .0) (form .before .reference-digits .result) (formOf (form .reference-form .result)) g (drop (x .at) (x .text .now)) (form .reference-form .ensures .0)
 
 with-integer : tie.Need-returns
 with-integer c =
@@ -78,7 +78,7 @@ with-numeric c =
     let t = body .body .given .0 .0 in
     let x = body .before .before .before .args in
     rw (body .body .given .1, l .l3 .given .1, sym (n .reference-digits .ensures .0))
-    (c .with-numeric .ensures ∙ of-row form (Numeric 0 (l .l3 .given .0 .1 .0)) (numeric 0 (l .l3 .given .0 .1 .0)) ∙ numeric-alike (x .head) (l .l3 .given .0 .0) (l .l3 .given .0 .1 .0) (partsIn (referred (counted t (cell t (rowOf (x .head .digits)) .0) (n .reference-digits .result)) (numeric 0 (l .l3 .given .0 .1 .0))) (drop (x .at) (x .text .now))))
+    (c .with-numeric .ensures ∙ of-row form (Numeric 0 (l .l3 .given .0 .1 .0)) (numeric 0 (l .l3 .given .0 .1 .0)) ∙ numeric-alike (x .head) (l .l3 .given .0 .0) (l .l3 .given .0 .1 .0) (partsIn (x .at) (referred (counted t (cell t (rowOf (x .head .digits)) .0) (n .reference-digits .result)) (numeric 0 (l .l3 .given .0 .1 .0))) (drop (x .at) (x .text .now))))
 
 -- zeros stand behind exactly the row's digits
 alone : tie.Need-returns-4
@@ -90,7 +90,7 @@ alone c =
     let t = body .body2 .given .0 .0 in
     let narrow = rw (body .body2 .given .1) at (s .pre .1) in
     rw (body .body2 .given .1, sym (n .reference-digits2 .ensures .0))
-    (c .reference-alone .ensures ∙ ap (referenceAlone (s .args .head)) (row-alone t (cell t (rowOf (x .head .digits)) .0) (n .reference-digits2 .result) (drop (x .at) (x .text .now)) (narrow .1)))
+    (c .reference-alone .ensures ∙ ap (referenceAlone (s .args .head)) (row-alone t (x .at) (cell t (rowOf (x .head .digits)) .0) (n .reference-digits2 .result) (drop (x .at) (x .text .now)) (narrow .1)))
 
 -- the reference of table E
 row : (c : tie.After-by-digits) → c .by-digits .result < 7
@@ -109,7 +109,7 @@ asset c =
     let told = a .before .before in
     let x = told .before .before .before .args in
     let bits : a .asset .result ≡ assetBits (rowOf (x .head .digits)) = a .asset .ensures ∙ ap (λ p. assetBits (rowAt p)) (a .before .by-digits .ensures) in
-    rw (told .enum-told .given .1) (c .asset-alone .ensures ∙ ap (λ b. assetAlone (x .head) (partsIn (end last (integer b)) (drop (x .at) (x .text .now)))) bits)
+    rw (told .enum-told .given .1) (c .asset-alone .ensures ∙ ap (λ b. assetAlone (x .head) (partsIn (x .at) (end last (integer b)) (drop (x .at) (x .text .now)))) bits)
 
 pub behind-prefix-spec : {M : Type 1} → statement M
 behind-prefix-spec =

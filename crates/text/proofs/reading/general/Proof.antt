@@ -2,17 +2,12 @@
 use mathlib.Core.Path.{sym, _∙_}
 use native.Mathlib.Omega.{arith}
 use borrow.Author.Needs.{needs}
-use lib.ListN.{drop}
-use Rattle.rules.specs.Schemes.{integer}
-use Rattle.rules.specs.TextNumbers.{partsIn}
-use Rattle.rules.specs.declared.Last.the-variants.{Integer as LastInteger}
 use Rattle.rules.specs.declared.Parts.the-variants.{Integers}
 use Rattle.scheme.specs.Outlines.{Narrow}
 use Rattle.scheme.proofs.Widths.{parts-narrow}
 use Rattle.parts.specs.declared.parts.Form.the-variants.{Integer}
-use Rattle.text.specs.Reading.{withLast, referred}
-use Rattle.text.proofs.Found.{Standing, wrong, stands}
-use Rattle.text.proofs.Whole.{head, no-integer, with-integer}
+use Rattle.text.proofs.Found.{Standing, stands}
+use Rattle.text.proofs.Whole.{no-integer, with-integer}
 use Rattle.text.proofs.reading.general.Statement.{statement}
 use Rattle.text.proofs.reading.general.Tie as tie
 
@@ -21,14 +16,6 @@ narrow c = rw (c .pre .1) at (parts-narrow (c .args .s))
 
 few : tie.Need-part-at-requires
 few c κs = let s = c .before in (s .pre .0, omega (arith, narrow s))
-
-returns : tie.Need-returns
-returns c =
-    let p = c .before .before .before in
-    let s = p .before .before in
-    let x = s .args in
-    c .refused .ensures
-    ∙ no-integer (x .s) (x .a) (x .b) (x .c) (s .pre .1) (drop (x .at) (x .text .now)) (wrong 5 (Integer (x .a)) (x .text .now) (x .at) (sym (c .before .enum-told .given .1) ∙ p .part-at .ensures))
 
 -- the first integer, from the place where its names are
 first : (c : tie.After-prefix) → let x = c .before .before .before .before .args in
@@ -43,15 +30,20 @@ inside c κs =
     let s = c .before .before .before .before .before in
     (first (c .before) .within, omega (arith, narrow s), omega (arith, narrow s))
 
-returns-2 : tie.Need-returns-2
-returns-2 c =
+returns : tie.Need-returns
+returns c =
     let v = c .before .before in
     let s = v .before .before .before .before in
     let x = s .args in
-    let f = first v in
-    let next = v .prefix .given .0 .1 .1 .0 in
-    c .with-integer .ensures ∙ (λ i. withLast (head (x .s) 0 (f .value-is i) 0) (LastInteger (x .c)) (partsIn (referred (integer (x .b)) (integer (x .c))) (drop next (x .text .now))))
-    ∙ with-integer (x .s) (x .a) (x .b) (x .c) (s .pre .1) (drop (x .at) (x .text .now)) (f .part) (drop next (x .text .now)) (f .read) (f .rest)
+    c .with-integer .ensures ∙ with-integer (x .s) (x .a) (x .b) (x .c) (s .pre .1) (x .text .now) (x .at) _ _ _ (first v)
+
+returns-2 : tie.Need-returns-2
+returns-2 c =
+    let w = c .before .before in
+    let p = w .before .before in
+    let s = p .before .before in
+    let x = s .args in
+    c .refused .ensures ∙ no-integer (x .s) (x .a) (x .b) (x .c) (s .pre .1) (x .text .now) (x .at) (w .place .given .0 .0) (sym (w .place .given .1) ∙ p .part-at .ensures)
 
 pub general-spec : {M : Type 1} → statement M
 general-spec =
@@ -59,8 +51,8 @@ general-spec =
     (tie.spec
     few
     (λ c. search needs)
+    inside
     (λ c. search needs)
     (λ c κs. search needs)
     returns
-    inside
     returns-2)

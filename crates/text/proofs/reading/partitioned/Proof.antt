@@ -3,25 +3,14 @@ use Prim.Native.Nat.{_≤_}
 use mathlib.Core.Path.{sym, _∙_}
 use borrow.Author.Needs.{needs}
 use lib.Dec.{leb, leb→le}
-use lib.ListN.{length, drop}
-use Rattle.rules.specs.Grammar.{bodyLayout}
-use Rattle.rules.specs.TextNumbers.{partsIn}
+use lib.ListN.{length}
 use Rattle.rules.proofs.Tests.{both}
 use Rattle.scheme.proofs.Widths.{parts-narrow}
 use Rattle.parts.specs.declared.parts.Form.the-variants.{Prefix, Integer}
-use Rattle.text.specs.Reading.{behindPrefix}
-use Rattle.text.proofs.Found.{Standing, wrong, stands}
-use Rattle.text.proofs.Whole.{head, no-filter, no-prefix, with-prefix}
+use Rattle.text.proofs.Found.{Standing, stands}
+use Rattle.text.proofs.Whole.{no-filter, no-prefix, with-prefix}
 use Rattle.text.proofs.reading.partitioned.Statement.{statement}
 use Rattle.text.proofs.reading.partitioned.Tie as tie
-
-returns : tie.Need-returns
-returns c =
-    let p = c .before .before .before in
-    let s = p .before .before in
-    let x = s .args in
-    c .refused .ensures
-    ∙ no-filter (x .s) (x .body) (s .pre .1) (drop (x .at) (x .text .now)) (wrong 4 (Integer 3) (x .text .now) (x .at) (sym (c .before .enum-told .given .1) ∙ p .part-at .ensures))
 
 -- the filter and the company prefix, from the places where their names are
 filter : (c : tie.After-filter) → let x = c .before .before .before .before .args in
@@ -41,18 +30,6 @@ prefix c =
 behind : tie.Need-part-at-requires-2
 behind c κs = (filter (c .before) .within, tt)
 
-returns-2 : tie.Need-returns-2
-returns-2 c =
-    let p = c .before .before .before in
-    let v = p .before .before in
-    let s = v .before .before .before .before in
-    let x = s .args in
-    let f = filter v in
-    let next = v .filter .given .0 .1 .1 .0 in
-    c .refused2 .ensures
-    ∙ no-prefix (x .s) (x .body) (s .pre .1) (drop (x .at) (x .text .now)) (f .part) (drop next (x .text .now)) (f .read) (f .rest)
-    (wrong 5 Prefix (x .text .now) next (sym (c .before .enum-told2 .given .1) ∙ p .part-at2 .ensures))
-
 -- six to twelve digits
 picked : (c : tie.After-prefix) → (6 ≤ c .prefix .given .0 .1 .0) × (c .prefix .given .0 .1 .0 ≤ 12)
 picked c =
@@ -67,19 +44,31 @@ inside c κs =
     let s = v .before .before .before .before .before .before .before .before in
     (prefix v .within, rw (s .pre .1) at (parts-narrow (s .args .s)), picked v .0, picked v .1)
 
-returns-3 : tie.Need-returns-3
-returns-3 c =
+returns : tie.Need-returns
+returns c =
     let w = c .before .before in
     let v = w .before .before .before .before in
     let s = v .before .before .before .before in
     let x = s .args in
-    let f = filter v in
-    let q = prefix w in
-    let text = x .text .now in
-    let next = w .prefix .given .0 .1 .1 .0 in
-    c .behind-prefix .ensures
-    ∙ (λ i. behindPrefix (head (x .s) (f .value-is i) (q .value-is i) (q .digits-are i)) (x .body) (partsIn (bodyLayout (x .body) (q .digits-are i)) (drop next text)))
-    ∙ with-prefix (x .s) (x .body) (s .pre .1) (drop (x .at) text) (f .part) (drop (v .filter .given .0 .1 .1 .0) text) (f .read) (f .rest) (q .part) (drop next text) (q .read) (q .rest)
+    c .behind-prefix .ensures ∙ with-prefix (x .s) (x .body) (s .pre .1) (x .text .now) (x .at) _ _ _ (filter v) _ _ _ (prefix w)
+
+returns-2 : tie.Need-returns-2
+returns-2 c =
+    let w = c .before .before in
+    let p = w .before .before in
+    let v = p .before .before in
+    let s = v .before .before .before .before in
+    let x = s .args in
+    c .refused .ensures
+    ∙ no-prefix (x .s) (x .body) (s .pre .1) (x .text .now) (x .at) _ _ _ (filter v) (w .place .given .0 .0) (sym (w .place .given .1) ∙ p .part-at2 .ensures)
+
+returns-3 : tie.Need-returns-3
+returns-3 c =
+    let w = c .before .before in
+    let p = w .before .before in
+    let s = p .before .before in
+    let x = s .args in
+    c .refused2 .ensures ∙ no-filter (x .s) (x .body) (s .pre .1) (x .text .now) (x .at) (w .place2 .given .0 .0) (sym (w .place2 .given .1) ∙ p .part-at .ensures)
 
 pub partitioned-spec : {M : Type 1} → statement M
 partitioned-spec =
@@ -87,13 +76,13 @@ partitioned-spec =
     (tie.spec
     (λ c κs. search needs)
     (λ c. search needs)
+    behind
+    (λ c. search needs)
+    inside
+    (λ c. search needs)
+    (λ c κs. search needs)
     (λ c. search needs)
     (λ c κs. search needs)
     returns
-    behind
-    (λ c. search needs)
-    (λ c. search needs)
-    (λ c κs. search needs)
     returns-2
-    inside
     returns-3)

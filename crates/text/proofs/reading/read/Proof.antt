@@ -27,15 +27,14 @@ inside c κs =
     let n = c .before in
     let m = n .before .before in
     let t = m .before .before .before .before .args .text .now in
-    name-is t (begins (m .before) .1) (begins (m .before) .0) (n .s .given .0 .0) (n .s .given .0 .1 .0) (sym (n .s .given .1) ∙ m .name .ensures) .1
+    name-is t (begins (m .before) .1) (begins (m .before) .0) (n .s .given .0 .0) (n .s .given .0 .1 .0) (sym (n .s .given .1) ∙ m .name .ensures) .2
 
 returns-2 : tie.Need-returns-2
 returns-2 c =
     let n = c .before .before in
     let m = n .before .before in
     let t = m .before .before .before .before .args .text .now in
-    let named = name-is t (begins (m .before) .1) (begins (m .before) .0) (n .s .given .0 .0) (n .s .given .0 .1 .0) (sym (n .s .given .1) ∙ m .name .ensures) .0 in
-    c .parts-at .ensures ∙ with-name t (begins (m .before) .1) (begins (m .before) .0) _ _ named
+    c .parts-at .ensures ∙ with-name t (begins (m .before) .1) (begins (m .before) .0) (n .s .given .0 .0) (n .s .given .0 .1 .0) (sym (n .s .given .1) ∙ m .name .ensures)
 
 returns-3 : tie.Need-returns-3
 returns-3 c =

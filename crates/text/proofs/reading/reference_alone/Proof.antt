@@ -13,14 +13,14 @@ returns c =
     let v = c .before .before in
     let l = v .before .before in
     let s = l .before .before in
-    c .tagged .ensures ∙ alone (s .args .head) (v .value .given .0 .0) (lastIn 6 (digits 0 (s .args .reference)) (drop (s .args .at) (s .args .text .now))) (sym (v .value .given .1) ∙ l .digits-to-end .ensures)
+    c .tagged .ensures ∙ alone (s .args .head) (v .value .given .0 .0) (lastIn 6 (s .args .at) (digits 0 (s .args .reference)) (drop (s .args .at) (s .args .text .now))) (sym (v .value .given .1) ∙ l .digits-to-end .ensures)
 
 returns-2 : tie.Need-returns-2
 returns-2 c =
     let n = c .before .before in
     let l = n .before .before in
     let s = l .before .before in
-    c .refused .ensures ∙ not-alone (s .args .head) (n .n .given .0 .0) (lastIn 6 (digits 0 (s .args .reference)) (drop (s .args .at) (s .args .text .now))) (sym (n .n .given .1) ∙ l .digits-to-end .ensures)
+    c .refused .ensures ∙ not-alone (s .args .head) (n .n .given .0 .0) (n .n .given .0 .1 .0) (lastIn 6 (s .args .at) (digits 0 (s .args .reference)) (drop (s .args .at) (s .args .text .now))) (sym (n .n .given .1) ∙ l .digits-to-end .ensures)
 
 pub reference-alone-spec : {M : Type 1} → statement M
 reference-alone-spec =

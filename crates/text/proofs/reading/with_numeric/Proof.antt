@@ -1,20 +1,11 @@
 -- `with_numeric` meets its contract: the reference stands before its dot, the numeric string is the rest.
 use mathlib.Core.Path.{sym, _∙_}
-use lib.ListN.{drop}
 use borrow.Author.Needs.{needs}
 use Rattle.rules.specs.declared.Last.the-variants.{Numeric}
-use Rattle.parts.specs.Parts.{formOf}
-use Rattle.text.proofs.Found.{Standing, wrong, stands}
+use Rattle.text.proofs.Found.{Standing, stands}
 use Rattle.text.proofs.Lasts.{no-reference, numeric-ended}
 use Rattle.text.proofs.reading.with_numeric.Statement.{statement}
 use Rattle.text.proofs.reading.with_numeric.Tie as tie
-
-returns : tie.Need-returns
-returns c =
-    let p = c .before .before .before in
-    let x = p .before .before .args in
-    c .refused .ensures
-    ∙ no-reference (x .head) (formOf (x .reference)) (Numeric 0 (x .most)) (drop (x .at) (x .text .now)) (wrong 6 (x .reference) (x .text .now) (x .at) (sym (c .before .enum-told .given .1) ∙ p .part-at .ensures))
 
 -- the reference, from the place where its names are
 reference : (c : tie.After-value) → let x = c .before .before .before .before .args in
@@ -27,12 +18,19 @@ reference c =
 inside : tie.Need-numeric-to-end-requires
 inside c κs = (reference (c .before) .within, c .before .before .before .before .before .pre .2)
 
-returns-2 : tie.Need-returns-2
-returns-2 c =
+returns : tie.Need-returns
+returns c =
     let l = c .before in
     let v = l .before .before in
     let x = v .before .before .before .before .args in
     c .ended .ensures ∙ numeric-ended (x .head) (x .reference) (x .most) (x .text .now) (x .at) _ _ _ (reference v) _ (l .numeric-to-end .ensures)
+
+returns-2 : tie.Need-returns-2
+returns-2 c =
+    let w = c .before .before in
+    let p = w .before .before in
+    let x = p .before .before .args in
+    c .refused .ensures ∙ no-reference (x .head) (x .reference) (Numeric 0 (x .most)) (x .text .now) (x .at) (w .place .given .0 .0) (sym (w .place .given .1) ∙ p .part-at .ensures)
 
 pub with-numeric-spec : {M : Type 1} → statement M
 with-numeric-spec =
@@ -40,10 +38,10 @@ with-numeric-spec =
     (tie.spec
     (λ c κs. search needs)
     (λ c. search needs)
-    (λ c. search needs)
-    (λ c κs. search needs)
-    returns
     inside
     (λ c. reference (c .before .before) .within)
     (λ c κs. search needs)
+    (λ c. search needs)
+    (λ c κs. search needs)
+    returns
     returns-2)
