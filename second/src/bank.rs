@@ -1,5 +1,6 @@
 //! The bank's control word and code words; the raw line; which line the screen shows.
 
+use crate::answer::{Answer, Refusal};
 use crate::line::Line;
 use crate::tables::*;
 
@@ -10,14 +11,15 @@ pub struct Bank<'a> {
 }
 
 impl<'a> Bank<'a> {
-    /// The bank in these bytes, or the number of the refusal.
-    pub fn new(bytes: &'a [u8]) -> Result<Self, u8> {
-        let (control, rest) = bytes.split_first_chunk().ok_or(refusal::LENGTH)?;
+    /// The bank in these bytes, or the refusal.
+    pub fn new(bytes: &'a [u8]) -> Result<Self, Refusal> {
+        let too_short = Refusal::new(refusal::LENGTH, bytes.len());
+        let (control, rest) = bytes.split_first_chunk().ok_or(too_short)?;
         let control = u16::from_be_bytes(*control);
         let words = usize::from(control >> control::WORD_COUNT_SHIFT);
-        let code = rest.get(..words * WORD_BYTES).ok_or(refusal::LENGTH)?;
+        let code = rest.get(..words * WORD_BYTES).ok_or(too_short)?;
         if code.is_empty() {
-            return Err(refusal::NO_WORDS);
+            return Err(Refusal::new(refusal::NO_WORDS, address::WORD_COUNT));
         }
         Ok(Bank { control, code })
     }
@@ -35,10 +37,10 @@ impl<'a> Bank<'a> {
     }
 }
 
-/// Writes the raw line of a bank: its length, or the number of the refusal and nothing written.
-pub fn raw_line(bank: &[u8], out: &mut [u8]) -> Result<usize, u8> {
+/// Writes the raw line of a bank: its length, or the refusal and nothing written.
+pub fn raw_line(bank: &[u8], out: &mut [u8]) -> Answer {
     if out.len() < TEXT_ROOM {
-        return Err(refusal::OUTPUT);
+        return Err(Refusal::without_place(refusal::OUTPUT));
     }
     let bank = Bank::new(bank)?;
     let mut line = Line::new(out);

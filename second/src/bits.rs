@@ -51,6 +51,11 @@ impl BitReader {
         BitReader { bytes, place: 0 }
     }
 
+    /// The place of the next bit.
+    pub fn place(&self) -> usize {
+        self.place
+    }
+
     /// The next 1 to 64 bits.
     pub fn take(&mut self, bits: usize) -> u64 {
         let value = self.at(self.place, bits);

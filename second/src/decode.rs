@@ -1,15 +1,16 @@
 //! Bank to text: each part of the scheme takes its bits and gives its characters.
 
+use crate::answer::{Answer, Refusal};
 use crate::bank::Bank;
 use crate::bits::BitReader;
 use crate::characters;
 use crate::line::Line;
 use crate::tables::*;
 
-/// Writes the tag's text of a bank: its length, or the number of the refusal and nothing written.
-pub fn bank_to_text(bank: &[u8], out: &mut [u8]) -> Result<usize, u8> {
+/// Writes the tag's text of a bank: its length, or the refusal and nothing written.
+pub fn bank_to_text(bank: &[u8], out: &mut [u8]) -> Answer {
     if out.len() < TEXT_ROOM {
-        return Err(refusal::OUTPUT);
+        return Err(Refusal::without_place(refusal::OUTPUT));
     }
     let bank = Bank::new(bank)?;
     let scheme = scheme_of(&bank)?;
@@ -20,16 +21,17 @@ pub fn bank_to_text(bank: &[u8], out: &mut [u8]) -> Result<usize, u8> {
 }
 
 /// The scheme that the control word and the header name.
-fn scheme_of(bank: &Bank) -> Result<&'static Scheme, u8> {
+fn scheme_of(bank: &Bank) -> Result<&'static Scheme, Refusal> {
     if bank.toggle() {
-        return Err(refusal::TOGGLE);
+        return Err(Refusal::new(refusal::TOGGLE, address::TOGGLE));
     }
     if bank.control & control::OTHERS != 0 {
-        return Err(refusal::CONTROL);
+        return Err(Refusal::new(refusal::CONTROL, address::OTHERS));
     }
-    let scheme = Scheme::by_header(bank.code[0]).ok_or(refusal::HEADER)?;
+    let no_scheme = Refusal::new(refusal::HEADER, address::CODE);
+    let scheme = Scheme::by_header(bank.code[0]).ok_or(no_scheme)?;
     if bank.words() != scheme.words {
-        return Err(refusal::WORDS);
+        return Err(Refusal::new(refusal::WORDS, address::WORD_COUNT));
     }
     Ok(scheme)
 }
@@ -48,7 +50,7 @@ impl<'a> Decoder<'a> {
         Decoder { bits: BitReader::new(code), line, row: &ROWS[0] }
     }
 
-    fn text(mut self, scheme: &Scheme) -> Result<usize, u8> {
+    fn text(mut self, scheme: &Scheme) -> Answer {
         self.zeros(scheme.zero_from(), scheme.words * WORD_BITS)?;
         self.bits.take(HEADER_BITS);
         let mut separator = b":";
@@ -60,15 +62,25 @@ impl<'a> Decoder<'a> {
         Ok(self.line.length())
     }
 
-    /// The code bits from `start` on and before `end`, 24 at the most, are zero.
-    fn zeros(&self, start: usize, end: usize) -> Result<(), u8> {
-        if start < end && self.bits.at(start, end - start) != 0 {
-            return Err(refusal::NOT_ZERO);
+    /// The code bits from `start` on and before `end`, 24 at the most, are zero; if not, the place is the
+    /// first that is one.
+    fn zeros(&self, start: usize, end: usize) -> Result<(), Refusal> {
+        let value = if start < end { self.bits.at(start, end - start) } else { 0 };
+        match value.checked_ilog2() {
+            Some(after) => {
+                let first = end - 1 - after as usize;
+                Err(Refusal::new(refusal::NOT_ZERO, address::CODE + first))
+            }
+            None => Ok(()),
         }
-        Ok(())
     }
 
-    fn part(&mut self, part: &Part) -> Result<(), u8> {
+    /// The address of the next bit.
+    fn address(&self) -> usize {
+        address::CODE + self.bits.place()
+    }
+
+    fn part(&mut self, part: &Part) -> Result<(), Refusal> {
         match *part {
             Part::Filter => self.filter(),
             Part::Prefix => self.prefix(),
@@ -80,39 +92,43 @@ impl<'a> Decoder<'a> {
         }
     }
 
-    fn filter(&mut self) -> Result<(), u8> {
+    fn filter(&mut self) -> Result<(), Refusal> {
         let value = self.bits.take(FILTER_BITS);
         self.line.integer(value);
         Ok(())
     }
 
-    fn prefix(&mut self) -> Result<(), u8> {
+    fn prefix(&mut self) -> Result<(), Refusal> {
+        let begun = self.address();
         let partition = self.bits.take(PARTITION_BITS) as usize;
-        self.row = ROWS.get(partition).ok_or(refusal::PARTITION)?;
+        self.row = ROWS.get(partition).ok_or(Refusal::new(refusal::PARTITION, begun))?;
         self.padded(self.row.prefix, refusal::PREFIX)
     }
 
-    fn padded(&mut self, kind: Padded, number: u8) -> Result<(), u8> {
+    fn padded(&mut self, kind: Padded, number: u8) -> Result<(), Refusal> {
+        let begun = self.address();
         let value = self.bits.take(kind.bits);
         if value >= 10u64.pow(kind.digits as u32) {
-            return Err(number);
+            return Err(Refusal::new(number, begun));
         }
         self.line.padded(value, kind.digits);
         Ok(())
     }
 
     /// Only a reference's limit is below what its bits hold.
-    fn integer(&mut self, kind: Integer) -> Result<(), u8> {
+    fn integer(&mut self, kind: Integer) -> Result<(), Refusal> {
+        let begun = self.address();
         let value = self.bits.take(kind.bits);
         if value >= kind.limit {
-            return Err(refusal::REFERENCE);
+            return Err(Refusal::new(refusal::REFERENCE, begun));
         }
         self.line.integer(value);
         Ok(())
     }
 
     /// Characters up to the first zero group or the string's end, at least one; then zeros only.
-    fn string(&mut self, bits: usize) -> Result<(), u8> {
+    fn string(&mut self, bits: usize) -> Result<(), Refusal> {
+        let wrong = Refusal::new(refusal::STRING, self.address());
         let mut ended = false;
         for place in 0..bits / CHARACTER_BITS {
             let group = self.bits.take(CHARACTER_BITS) as u8;
@@ -120,19 +136,20 @@ impl<'a> Decoder<'a> {
                 ended = true;
                 continue;
             }
-            let form = characters::form(group).filter(|_| !ended).ok_or(refusal::STRING)?;
+            let form = characters::form(group).filter(|_| !ended).ok_or(wrong)?;
             self.line.push(form);
         }
         Ok(())
     }
 
     /// A number that reads as a 1 and so many digits; the digits are what is shown.
-    fn numeric_string(&mut self, kind: NumericString) -> Result<(), u8> {
+    fn numeric_string(&mut self, kind: NumericString) -> Result<(), Refusal> {
+        let begun = self.address();
         let value = self.bits.take(kind.bits);
         let digits = value.checked_ilog10().unwrap_or(0);
         let one = 10u64.pow(digits);
         if !(1..=kind.most as u32).contains(&digits) || value >= 2 * one {
-            return Err(refusal::STRING);
+            return Err(Refusal::new(refusal::STRING, begun));
         }
         self.line.padded(value - one, digits as usize);
         Ok(())

@@ -1,24 +1,30 @@
 //! Text to bank: each part of the scheme takes its characters and gives its bits.
 
+use crate::answer::{Answer, Refusal};
 use crate::bits::BitWriter;
 use crate::characters;
 use crate::numerals;
 use crate::tables::*;
 
-/// Writes the bank of a tag's text: its length, or the number of the refusal and nothing written.
-pub fn text_to_bank(text: &[u8], out: &mut [u8]) -> Result<usize, u8> {
+/// Writes the bank of a tag's text: its length, or the refusal and nothing written.
+pub fn text_to_bank(text: &[u8], out: &mut [u8]) -> Answer {
     if out.len() < BANK_ROOM {
-        return Err(refusal::OUTPUT);
+        return Err(Refusal::without_place(refusal::OUTPUT));
     }
-    let text = text.strip_prefix(TAG_START).ok_or(refusal::START)?;
-    let (name, text) = split(text, b':').ok_or(refusal::NAME)?;
-    let scheme = Scheme::by_name(name).ok_or(refusal::NAME)?;
-    let bank = Encoder::new(scheme, text).bank(scheme)?;
+    let named = text.strip_prefix(TAG_START).ok_or(Refusal::new(refusal::START, 0))?;
+    let no_name = Refusal::new(refusal::NAME, TAG_START.len());
+    let (name, parts) = split(named, b':').ok_or(no_name)?;
+    let scheme = Scheme::by_name(name).ok_or(no_name)?;
+    let mut encoder = Encoder::new(scheme, parts);
+    if let Err(number) = encoder.parts(scheme) {
+        return Err(Refusal::new(number, text.len() - encoder.text.len()));
+    }
     let length = WORD_BYTES * (1 + scheme.words);
-    out[..length].copy_from_slice(&bank[..length]);
+    out[..length].copy_from_slice(&encoder.bits.finish()[..length]);
     Ok(length)
 }
 
+/// `text` begins with the part that is being read.
 struct Encoder<'a> {
     text: &'a [u8],
     bits: BitWriter,
@@ -33,8 +39,9 @@ impl<'a> Encoder<'a> {
         Encoder { text, bits, row: &ROWS[0] }
     }
 
-    /// Zeros after the parts, and fill bits, are those that the writer ends with.
-    fn bank(mut self, scheme: &Scheme) -> Result<[u8; BANK_ROOM], u8> {
+    /// The bits of all parts, or the number of the first refused, which `text` then begins with. Zeros
+    /// after the parts, and fill bits, are those that the writer ends with.
+    fn parts(&mut self, scheme: &Scheme) -> Result<(), u8> {
         if let Some((last, before)) = scheme.parts.split_last() {
             for part in before {
                 let (characters, rest) = split(self.text, b'.').ok_or(part.form())?;
@@ -43,7 +50,7 @@ impl<'a> Encoder<'a> {
             }
             self.part(last, self.text)?;
         }
-        Ok(self.bits.finish())
+        Ok(())
     }
 
     fn part(&mut self, part: &Part, characters: &[u8]) -> Result<(), u8> {

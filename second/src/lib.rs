@@ -1,10 +1,11 @@
-//! A second codec for the tags of docs/01-scope.md and of request C-11 in docs/02-change-requests.md,
-//! written from those papers alone, to compare with.
+//! A second codec for the tags of docs/01-scope.md and of requests C-11 and C-12 in
+//! docs/02-change-requests.md, written from those papers alone, to compare with.
 //!
 //! A scheme is a list of parts, and each part turns its characters into bits and its bits into
 //! characters; the lists and all numbers stand in `tables`. No call allocates, and none touches its
 //! output before it knows its answer.
 
+mod answer;
 mod bank;
 mod bits;
 mod characters;
@@ -15,6 +16,7 @@ mod numerals;
 pub mod tables;
 mod tagline;
 
+pub use answer::{Answer, Refusal};
 pub use bank::{raw_line, screen};
 pub use decode::bank_to_text;
 pub use encode::text_to_bank;

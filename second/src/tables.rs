@@ -1,5 +1,5 @@
-//! Every number of document 01 and of document 02's request C-11, typed from their tables and
-//! sentences.
+//! Every number of document 01 and of document 02's requests C-11 and C-12, typed from their tables
+//! and sentences.
 
 /// Numbers of refusals, "Numbers given, and when".
 pub mod refusal {
@@ -52,6 +52,14 @@ pub mod control {
     pub const TOGGLE: u16 = 0x0100;
     pub const OTHERS: u16 = 0x06FF;
     pub const AFI: u16 = 0x00FF;
+}
+
+/// Bank addresses, which count from the word count's first bit; code bit 0 is `CODE`.
+pub mod address {
+    pub const WORD_COUNT: usize = 0x10;
+    pub const OTHERS: usize = 0x15;
+    pub const TOGGLE: usize = 0x17;
+    pub const CODE: usize = 0x20;
 }
 
 /// A number of so many bits, written with so many digits.

@@ -32,7 +32,7 @@ fn reply_to_text(text: &[u8], answer: &mut Line) {
             answer.push(b"B ");
             answer.hex(&bank[..length]);
         }
-        Err(number) => reply_number(b"N ", number, answer),
+        Err(refusal) => reply_number(b"N ", refusal.number, answer),
     }
 }
 
@@ -51,7 +51,7 @@ fn reply_to_bank(bank: &[u8], answer: &mut Line) {
             answer.push(b"T ");
             answer.push(&tag[..length]);
         }
-        Err(number) => reply_to_refused(bank, number, answer),
+        Err(refusal) => reply_to_refused(bank, refusal.number, answer),
     }
 }
 

@@ -1,5 +1,5 @@
 //! The typed tables, written as document 01 writes them, are the rows that stand there; what document
-//! 02 says of the schemes that it adds stands in it.
+//! 02 says of the schemes that it adds, and of the places of refusals, stands in it.
 
 use second::tables::*;
 
@@ -106,4 +106,17 @@ fn rows_of_document_02() {
         assert_eq!(row.prefix.bits + bits, 51);
         assert_eq!(limit, 10u64.pow(15 - row.prefix.digits as u32));
     }
+}
+
+/// The addresses that are places, where document 02 names them.
+#[test]
+fn places_of_document_02() {
+    let request = request("C-12");
+    let (count, toggle, others) = (address::WORD_COUNT, address::TOGGLE, address::OTHERS);
+    assert!(
+        request.contains(&format!("for 10 to 12 it is {count:X}h, {toggle:X}h and {others:X}h"))
+    );
+    assert!(
+        request.contains(&format!("for 13 it is {:X}h and for 14 it is {count:X}h", address::CODE))
+    );
 }

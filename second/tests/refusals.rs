@@ -2,7 +2,8 @@
 
 mod common;
 
-use common::{bytes, decode, encode, encode_bytes, raw};
+use common::{bytes, decode, encode, encode_bytes, raw, Call};
+use second::Refusal;
 
 fn tag(rest: &str) -> Result<Vec<u8>, u8> {
     encode(&format!("urn:epc:tag:{rest}"))
@@ -26,14 +27,19 @@ fn refusal_1_short_outputs() {
     let text = b"urn:epc:tag:gid-96:1.2.3";
     let bank = bytes("3000 350000001000002000000003");
     for (call, input, room) in [
-        (second::text_to_bank as fn(&[u8], &mut [u8]) -> Result<usize, u8>, &text[..], 64),
+        (second::text_to_bank as Call, &text[..], 64),
         (second::bank_to_text, &bank[..], 160),
         (second::raw_line, &bank[..], 160),
     ] {
         for length in [0, 1, room - 1] {
             for input in [input, b"", b"?"] {
                 let mut out = vec![0x5A; length];
-                assert_eq!(call(input, &mut out), Err(1), "1 comes before every other number");
+                let refusal = Refusal { number: 1, place: 0 };
+                assert_eq!(
+                    call(input, &mut out),
+                    Err(refusal),
+                    "1 comes before every other number"
+                );
                 assert!(out.iter().all(|&byte| byte == 0x5A));
             }
         }

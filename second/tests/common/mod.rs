@@ -3,35 +3,60 @@
 #![allow(dead_code)]
 
 use second::tables::{BANK_ROOM, TEXT_ROOM};
+use second::{Answer, Refusal};
 
-type Call = fn(&[u8], &mut [u8]) -> Result<usize, u8>;
+pub type Call = fn(&[u8], &mut [u8]) -> Answer;
 
 pub fn encode(text: &str) -> Result<Vec<u8>, u8> {
     encode_bytes(text.as_bytes())
 }
 
 pub fn encode_bytes(text: &[u8]) -> Result<Vec<u8>, u8> {
-    checked(second::text_to_bank, text, BANK_ROOM)
+    checked(second::text_to_bank, text, BANK_ROOM).map_err(|refusal| refusal.number)
 }
 
 pub fn decode(bank: &[u8]) -> Result<String, u8> {
-    checked(second::bank_to_text, bank, TEXT_ROOM).map(|text| String::from_utf8(text).unwrap())
+    shown(checked(second::bank_to_text, bank, TEXT_ROOM))
 }
 
 pub fn raw(bank: &[u8]) -> Result<String, u8> {
-    checked(second::raw_line, bank, TEXT_ROOM).map(|text| String::from_utf8(text).unwrap())
+    shown(checked(second::raw_line, bank, TEXT_ROOM))
+}
+
+fn shown(answer: Result<Vec<u8>, Refusal>) -> Result<String, u8> {
+    answer.map(|text| String::from_utf8(text).unwrap()).map_err(|refusal| refusal.number)
+}
+
+/// The number and the place of a text that is refused.
+pub fn refused_text(text: &[u8]) -> (u8, usize) {
+    number_and_place(checked(second::text_to_bank, text, BANK_ROOM))
+}
+
+/// The number and the place of a bank that is refused; its raw line has the same, or none.
+pub fn refused_bank(bank: &[u8]) -> (u8, usize) {
+    let refused = number_and_place(checked(second::bank_to_text, bank, TEXT_ROOM));
+    match checked(second::raw_line, bank, TEXT_ROOM) {
+        Ok(_) => assert!(refused.0 > 10),
+        raw => assert_eq!(number_and_place(raw), refused),
+    }
+    refused
+}
+
+fn number_and_place(answer: Result<Vec<u8>, Refusal>) -> (u8, usize) {
+    let Refusal { number, place } = answer.expect_err("a refusal");
+    (number, place)
 }
 
 /// The answer of a call, the same with any output that is large enough: what was there stays past the
 /// length written, and all of it after a refusal.
-fn checked(call: Call, input: &[u8], room: usize) -> Result<Vec<u8>, u8> {
+fn checked(call: Call, input: &[u8], room: usize) -> Result<Vec<u8>, Refusal> {
     let answer = written(call, input, room, 0x00);
     assert_eq!(answer, written(call, input, room, 0xFF));
     assert_eq!(answer, written(call, input, room + 37, 0xA5));
     answer
 }
 
-fn written(call: Call, input: &[u8], room: usize, before: u8) -> Result<Vec<u8>, u8> {
+fn written(call: Call, input: &[u8], room: usize, before: u8) -> Result<Vec<u8>, Refusal> {
     let mut out = vec![before; room];
     let answer = call(input, &mut out);
     let length = answer.unwrap_or(0);

@@ -1,0 +1,23 @@
+//! What a call gives.
+
+/// The length written, or the refusal, and then nothing is written.
+pub type Answer = Result<usize, Refusal>;
+
+/// The number of the first rule that was broken, and the place: in a text the offset of the first
+/// character of the part that was refused, in a bank the address of its first bit. A bank that is too
+/// short has its number of bytes for a place; a number without one has 0.
+#[derive(Clone, Copy, Debug, PartialEq, Eq)]
+pub struct Refusal {
+    pub number: u8,
+    pub place: usize,
+}
+
+impl Refusal {
+    pub fn new(number: u8, place: usize) -> Self {
+        Refusal { number, place }
+    }
+
+    pub fn without_place(number: u8) -> Self {
+        Refusal { number, place: 0 }
+    }
+}
