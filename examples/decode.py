@@ -1,17 +1,19 @@
 #!/usr/bin/env python3
-"""The line on the screen for one bank, given in hexadecimal: decode.py LIBRARY [30003074257BF7194E4000001A85].
+"""A bank, given in hexadecimal, or the text of a tag: decode.py LIBRARY [30003074257BF7194E4000001A85 | urn:epc:tag:gid-96:1.2.3].
 
-LIBRARY is the shared library of include/tagcodec.h (tests/link makes target/link/libtagcodec.so). Prints the number of the bank's
-first broken rule, 0 for none, and the line, if there is one to show.
+LIBRARY is the shared library of include/tagcodec.h (tests/link makes target/link/libtagcodec.so). Prints the number of the first broken
+rule, 0 for none. With 0: the tag's text, or its bank. With another: the place, and for a bank the line on the screen, if there is one
+to show; for a text the text, and a mark under the character at the place.
 """
 import ctypes
+import os
 import sys
 
 TEXT_ROOM = 160
 
 
 class Reply(ctypes.Structure):
-    _fields_ = [("number", ctypes.c_uint32), ("length", ctypes.c_size_t)]
+    _fields_ = [("number", ctypes.c_uint32), ("place", ctypes.c_uint32), ("length", ctypes.c_size_t)]
 
 
 class Shown(ctypes.Structure):
@@ -30,24 +32,40 @@ def load(path):
 
 
 def written(call, given):
-    """What a call of the library gives: its number, and the bytes that it wrote."""
+    """What a call of the library gives: its number, the place, and the bytes that it wrote."""
     out = ctypes.create_string_buffer(TEXT_ROOM)
     reply = call(given, len(given), out, len(out))
-    return reply.number, out.raw[: reply.length]
+    return reply.number, reply.place, out.raw[: reply.length]
+
+
+def show_bank(library, bank):
+    number, place, tag = written(library.tagcodec_bank_to_text, bank)
+    _, _, raw = written(library.tagcodec_raw_line, bank)
+    screen = library.tagcodec_screen(tag, len(tag), raw, len(raw), number)
+    line = (tag, raw)[screen.text][: screen.length].decode()
+    where = {0: "", 9: f"at {place} bytes"}.get(number, f"at {place:X}h")
+    print(*filter(None, (str(number), where, line)))
+
+
+def show_text(library, text):
+    number, place, bank = written(library.tagcodec_text_to_bank, text)
+    if number == 0:
+        print(0, bank.hex().upper())
+        return
+    print(number, "at", place)
+    print("".join(chr(byte) if 0x20 <= byte <= 0x7E else "?" for byte in text))
+    print(" " * place + "^")
 
 
 def main():
     if len(sys.argv) < 2:
         sys.exit(__doc__)
     library = load(sys.argv[1])
-    bank = bytes.fromhex(sys.argv[2] if len(sys.argv) > 2 else "30003074257BF7194E4000001A85")
-
-    number, tag = written(library.tagcodec_bank_to_text, bank)
-    _, raw = written(library.tagcodec_raw_line, bank)
-    screen = library.tagcodec_screen(tag, len(tag), raw, len(raw), number)
-    line = (tag, raw)[screen.text][: screen.length]
-
-    print(number, line.decode()) if line else print(number)
+    given = sys.argv[2] if len(sys.argv) > 2 else "30003074257BF7194E4000001A85"
+    if given.startswith("urn:"):
+        show_text(library, os.fsencode(given))
+    else:
+        show_bank(library, bytes.fromhex(given))
 
 
 main()

@@ -4,6 +4,7 @@
 #[repr(C)]
 struct Reply {
     number: u32,
+    place: u32,
     length: usize,
 }
 
@@ -24,13 +25,20 @@ extern "C" {
 pub const BANK_ROOM: usize = 64;
 pub const TEXT_ROOM: usize = 160;
 
-/// The length written, or the number of the refusal.
-pub type Answer = Result<usize, u32>;
+/// The number of the first broken rule, and where: an offset in a text, an address in a bank; include/tagcodec.h has them all.
+#[derive(Clone, Copy, Debug, PartialEq)]
+pub struct Refusal {
+    pub number: u32,
+    pub place: u32,
+}
 
-fn answer(reply: Reply) -> Answer {
-    match reply.number {
-        0 => Ok(reply.length),
-        number => Err(number),
+/// The length written, or the refusal.
+pub type Answer = Result<usize, Refusal>;
+
+fn answer(Reply { number, place, length }: Reply) -> Answer {
+    match number {
+        0 => Ok(length),
+        _ => Err(Refusal { number, place }),
     }
 }
 

@@ -1,9 +1,9 @@
 /* tagcodec: RFID tag codes of sixteen GS1 EPC schemes, text to bank, bank to text, and the line on the screen.
  *
  * Every function here is proved, in Rattle, to give what docs/01-scope.md says and, for gdti-113, sgcn-96 and cpi-96, C-11 of
- * docs/02-change-requests.md, for any bytes whatever: number, length, and each byte of the output. The caller checks nothing
- * beforehand. No function keeps a pointer, allocates, or changes anything but the output, so all may be called from any number
- * of threads.
+ * docs/02-change-requests.md, and for the places its C-12, for any bytes whatever: number, place, length, and each byte of the
+ * output. The caller checks nothing beforehand. No function keeps a pointer, allocates, or changes anything but the output, so all
+ * may be called from any number of threads.
  *
  * What the caller owes, because C can't check it:
  *   - each pointer is valid for the length beside it (NULL will do where that length is 0);
@@ -55,10 +55,32 @@ enum tagcodec_number {
                                          for gdti-113 and sgcn-96, the integer is not a 1 and 1 to 17 or 12 digits */
 };
 
-/* What a call gives. Accepted: number 0 and the length written from the output's start on; bytes past it are unchanged.
- * Refused: the number, length 0, and every byte of the output unchanged. */
+/* What a call gives. Accepted: number 0, place 0, and the length written from the output's start on; bytes past it are unchanged.
+ * Refused: the number, its place, length 0, and every byte of the output unchanged.
+ *
+ * The place says where. In a text it is an offset in bytes, from 0: that of the first character of the part that was refused. Where the
+ * part is missing, that is where it would begin, which may be the text's length. In a bank it is the address of the first bit of the part
+ * that was refused: the bank's first bit is 10h, and the first bit of its code 20h. 16 bits hold any place.
+ *
+ *   0, 1            0
+ *   2               0
+ *   3               12, where the name begins
+ *   4, 5, 6, 7, 8   the offset where the filter, the prefix, the reference or the last part begins
+ *   9               the number of bytes lent
+ *   10              10h
+ *   11              17h
+ *   12              15h, whichever of the bits it is
+ *   13              20h
+ *   14              10h
+ *   15              the first bit, in order, that must be 0 and is 1
+ *   16              2Bh
+ *   17              2Eh
+ *   18              the first bit of the reference: 2Eh and the prefix's bits
+ *   19              the first bit of the string, or of the numeric string's integer, whichever group or digit is wrong
+ */
 typedef struct tagcodec_reply {
     uint32_t number;
+    uint32_t place;
     size_t length;
 } tagcodec_reply;
 

@@ -1,11 +1,13 @@
 //! The two codecs behind one signature, that of include/tagcodec.h: the proved one's exported calls themselves, and second's as a C
 //! caller would have them. So neither is measured with more around it than the other.
+use second::Refusal;
 use std::slice::{from_raw_parts, from_raw_parts_mut};
 
 #[repr(C)]
 #[derive(Clone, Copy, Debug, PartialEq)]
 pub struct Reply {
     pub number: u32,
+    pub place: u32,
     pub length: usize,
 }
 
@@ -28,8 +30,8 @@ macro_rules! called_from_c {
     ($name:ident, $call:path) => {
         unsafe extern "C" fn $name(given: *const u8, given_length: usize, out: *mut u8, out_length: usize) -> Reply {
             match $call(from_raw_parts(given, given_length), from_raw_parts_mut(out, out_length)) {
-                Ok(length) => Reply { number: 0, length },
-                Err(number) => Reply { number: number.into(), length: 0 },
+                Ok(length) => Reply { number: 0, place: 0, length },
+                Err(Refusal { number, place }) => Reply { number: number.into(), place: place as u32, length: 0 },
             }
         }
     };
@@ -45,12 +47,4 @@ pub const RAW_LINE: Pair = Pair { proved: tagcodec_raw_line, second: second_raw_
 
 pub fn give(call: Call, given: &[u8], out: &mut [u8]) -> Reply {
     unsafe { call(given.as_ptr(), given.len(), out.as_mut_ptr(), out.len()) }
-}
-
-/// The bank of a text that is a tag's.
-pub fn bank_of(text: &[u8]) -> Vec<u8> {
-    let mut out = [0; 64];
-    let reply = give(tagcodec_text_to_bank, text, &mut out);
-    assert_eq!(reply.number, 0, "{}", String::from_utf8_lossy(text));
-    out[..reply.length].to_vec()
 }

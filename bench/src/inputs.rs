@@ -1,5 +1,7 @@
 //! What is measured: tags of each scheme in every row of its table, and hostile texts of any length.
 
+use crate::codecs::{give, TEXT_TO_BANK};
+
 /// What stands behind the company prefix, with its digits or bits (docs/01-scope.md, "The thirteen schemes", and request C-11 of
 /// docs/02-change-requests.md).
 enum Parts {
@@ -121,6 +123,14 @@ fn text(scheme: &Scheme, prefix_digits: usize, seeded: &mut Seeded) -> String {
 /// So many texts of a scheme, in every row alike.
 pub fn texts(scheme: &Scheme, count: usize, seeded: &mut Seeded) -> Vec<Vec<u8>> {
     (0..count).map(|i| text(scheme, 6 + i % 7, seeded).into_bytes()).collect()
+}
+
+/// The bank of a text that is a tag's.
+pub fn bank_of(text: &[u8]) -> Vec<u8> {
+    let mut out = [0; 64];
+    let reply = give(TEXT_TO_BANK.proved, text, &mut out);
+    assert_eq!(reply.number, 0, "{}", String::from_utf8_lossy(text));
+    out[..reply.length].to_vec()
 }
 
 /// What repeats, and before what: each text is wrong or too long only at its very end.

@@ -4,8 +4,8 @@ mod inputs;
 mod programs;
 mod timing;
 
-use codecs::{bank_of, Pair, BANK_TO_TEXT, RAW_LINE, TEXT_TO_BANK};
-use inputs::{hostile, texts, Seeded, HOSTILE, SCHEMES};
+use codecs::{Pair, BANK_TO_TEXT, RAW_LINE, TEXT_TO_BANK};
+use inputs::{bank_of, hostile, texts, Seeded, HOSTILE, SCHEMES};
 use timing::{measure, Case, Times};
 
 /// How many tags of a scheme are gone through: too many for the processor to learn their branches.

@@ -1,6 +1,5 @@
 //! Lines a second of the two programs and of `cat`, from a file to nowhere.
-use crate::codecs::bank_of;
-use crate::inputs::{texts, Seeded, SCHEMES};
+use crate::inputs::{bank_of, texts, Seeded, SCHEMES};
 use std::fs::File;
 use std::path::Path;
 use std::process::{Command, Stdio};

@@ -23,7 +23,7 @@ const ROUNDS: usize = 40;
 const LASTS: f64 = 200_000.0;
 
 impl Case {
-    /// Both codecs give the same number, length and bytes.
+    /// Both codecs give the same number, place, length and bytes.
     pub fn agree(&self) {
         for input in &self.inputs {
             let (mut a, mut b) = ([0xA5; 160], [0xA5; 160]);
