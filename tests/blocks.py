@@ -5,10 +5,11 @@ or the making of the line states; None where nothing states one. Characters stan
 """
 
 import faults
+from places import refused_banks, refused_texts
 from seeded import Random, mutated
 from tags import CHARACTERS, ESCAPED, ROOT, SCHEMES, TAG_START, Tag
 from tags import largest, middle, partitions, refused, samples, smallest
-from tags import numeric_value, string_text, string_value, text
+from tags import numeric_value, string_text, string_value, tags, text
 
 ROW_1 = "urn:epc:tag:sgtin-96:3.0614141.812345.6789"
 ROW_1_CODE = "3074257BF7194E4000001A85"
@@ -22,11 +23,6 @@ CPI = "urn:epc:tag:cpi-96:3.0614141.98765"
 def both(tag_text, bank):
     """A text and a bank, each from the other."""
     return [(tag_text, "B " + bank), (bank, "T " + tag_text)]
-
-
-def tags():
-    """Every scheme at every partition value, all parts in the middle."""
-    return [Tag(scheme, partition, middle) for scheme in SCHEMES for partition in partitions(scheme)]
 
 
 def scheme_tags():
@@ -154,6 +150,14 @@ def first_rule():
             yield line, f"N {number}"
         for number, bank in faults.bank_pairs(tag):
             yield bank, refused(number, bank)
+
+
+def places():
+    """Refusals at the places that no block before shows; a text that is the same in several rows once."""
+    for number, line in dict.fromkeys(refused_texts()):
+        yield line, f"N {number}"
+    for number, bank in refused_banks():
+        yield bank, refused(number, bank)
 
 
 def groups():
@@ -299,6 +303,7 @@ BLOCKS = (
     bank_refusals,
     headers,
     first_rule,
+    places,
     groups,
     numerics,
     characters,

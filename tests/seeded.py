@@ -1,6 +1,10 @@
-"""Seeded tags and lines."""
+"""Seeded tags and lines.
+
+    python3 tests/seeded.py LINES SEED     print so many lines; the same seed gives the same ones
+"""
 
 import random
+import sys
 
 from tags import CHARACTERS, SCHEMES, Tag, limit, numeric_value, partitions, string_value
 
@@ -87,3 +91,14 @@ def line(random):
     if kind < 13:
         return mutated(random, random.tag())
     return random_bank(random) if kind < 15 else random_bytes(random)
+
+
+def main():
+    lines, seed = map(int, sys.argv[1:])
+    random = Random(seed)
+    for _ in range(lines):
+        sys.stdout.buffer.write(line(random).encode("latin-1") + b"\n")
+
+
+if __name__ == "__main__":
+    main()

@@ -213,6 +213,11 @@ def samples(field):
     return values
 
 
+def tags():
+    """Every scheme at every partition value, all parts in the middle."""
+    return [Tag(scheme, partition, middle) for scheme in SCHEMES for partition in partitions(scheme)]
+
+
 def raw_line(bank):
     """The raw line of a bank in hex that has all its words."""
     control = int(bank[:4], 16)

@@ -1,5 +1,5 @@
 //! The two codecs behind one signature, that of include/tagcodec.h: the proved one's exported calls themselves, and second's as a C
-//! caller would have them. So neither is measured with more around it than the other.
+//! caller would have them. So neither is measured with more around it than the other. tests/agree calls them from here too.
 use second::Refusal;
 use std::slice::{from_raw_parts, from_raw_parts_mut};
 

@@ -1,0 +1,117 @@
+//! Every place that a refusal can have, by the tables of documents 01 and 02 and the words of request C-12.
+use crate::place::{Place, Why};
+use crate::seen::has_rows;
+use second::tables::*;
+use std::collections::BTreeSet;
+
+pub fn places() -> BTreeSet<Place> {
+    let mut found = BTreeSet::new();
+    found.extend([Why::Plain, Why::AtEnd].map(|why| at(2, 0, why)));
+    found.extend([Why::Plain, Why::AtEnd].map(|why| at(3, 12, why)));
+    found.extend(of_any_bank());
+    for scheme in &SCHEMES {
+        found.extend(of_words(scheme).into_iter().map(|place| Place { scheme: Some(scheme.name), ..place }));
+        for (partition, row) in ROWS.iter().enumerate() {
+            let found_here = of_parts(scheme, row).into_iter().chain(of_fields(scheme, row));
+            found.extend(found_here.map(|place| placed(scheme, partition, place)));
+        }
+    }
+    found
+}
+
+/// A number at a place, of no scheme and no row.
+fn at(number: u32, place: usize, why: Why) -> Place {
+    Place { scheme: None, row: None, number, place: place as u32, why }
+}
+
+/// The place of a scheme and, where it has rows and the number comes after the prefix, of a row.
+fn placed(scheme: &Scheme, row: usize, place: Place) -> Place {
+    let known = has_rows(scheme) && !matches!(place.number, 4 | 5);
+    Place { scheme: Some(scheme.name), row: known.then_some(row), ..place }
+}
+
+/// Each part of a text at each offset where it can begin: wrong, missing at the text's end, and for 8 too large.
+fn of_parts(scheme: &Scheme, row: &Row) -> Vec<Place> {
+    let mut found = Vec::new();
+    let mut offsets = BTreeSet::from([12 + scheme.name.len() + 1]);
+    for part in scheme.parts {
+        let number = u32::from(part.form());
+        for &offset in &offsets {
+            found.extend([Why::Plain, Why::AtEnd].map(|why| at(number, offset, why)));
+            found.extend((number == 7).then_some(at(8, offset, Why::Plain)));
+        }
+        let next = |offset: &usize| lengths(part, row).map(|length| offset + length + 1).collect::<Vec<_>>();
+        offsets = offsets.iter().flat_map(next).collect();
+    }
+    found
+}
+
+/// How many characters a part can have.
+fn lengths(part: &Part, row: &Row) -> std::ops::RangeInclusive<usize> {
+    let integer = |kind: Integer| 1..=(kind.limit - 1).ilog10() as usize + 1;
+    match *part {
+        Part::Filter => 1..=1,
+        Part::Prefix => row.prefix.digits..=row.prefix.digits,
+        Part::Reference(table) => row.reference(table).digits..=row.reference(table).digits,
+        Part::RowInteger(table) => integer(row.integer(table)),
+        Part::Integer(kind) => integer(kind),
+        Part::String { bits } => 1..=bits / CHARACTER_BITS,
+        Part::NumericString(kind) => 1..=kind.most,
+    }
+}
+
+/// 9 with no byte, one, and each length that is too short for a scheme's word count or the largest; 10 to 13, 12 with each bit alone.
+fn of_any_bank() -> Vec<Place> {
+    let mut found = vec![at(9, 0, Why::Plain), at(9, 1, Why::Plain)];
+    for words in SCHEMES.iter().map(|scheme| scheme.words).chain([31]) {
+        found.extend((2..2 + 2 * words).map(|length| at(9, length, Why::Words(words))));
+    }
+    found.extend([at(10, 0x10, Why::Plain), at(11, 0x17, Why::Plain), at(13, 0x20, Why::Plain)]);
+    let control = (0x15..0x20).filter(|&address| address != 0x17);
+    found.extend(control.map(|address| at(12, 0x15, Why::Bits(1 << (0x1F - address)))));
+    found
+}
+
+/// 14; 15 with each bit that must be zero as the first one, alone and with all after it; 16.
+fn of_words(scheme: &Scheme) -> Vec<Place> {
+    let mut found = vec![at(14, 0x10, Why::Plain)];
+    let end = 0x20 + 16 * scheme.words;
+    for address in 0x20 + scheme.zero_from()..end {
+        let alone = 1 << (end - 1 - address);
+        found.extend([alone, 2 * alone - 1].map(|bits| at(15, address, Why::Bits(bits))));
+    }
+    found.extend(has_rows(scheme).then_some(at(16, 0x2B, Why::Plain)));
+    found
+}
+
+/// 17 and 18 where the bits can hold a number that is too large; 19 where the string or the numeric string begins.
+fn of_fields(scheme: &Scheme, row: &Row) -> Vec<Place> {
+    let mut found = Vec::new();
+    for part in scheme.parts {
+        let (number, bits, limit) = match *part {
+            Part::Prefix => (17, row.prefix.bits, 10u64.pow(row.prefix.digits as u32)),
+            Part::Reference(table) => (18, row.reference(table).bits, 10u64.pow(row.reference(table).digits as u32)),
+            Part::RowInteger(table) => (18, row.integer(table).bits, row.integer(table).limit),
+            _ => continue,
+        };
+        let first = if number == 17 { 0x2E } else { 0x2E + row.prefix.bits };
+        found.extend((limit >> bits == 0).then_some(at(number, first, Why::Plain)));
+    }
+    found.extend(scheme.parts.last().map_or(Vec::new(), |part| of_string(scheme, part)));
+    found
+}
+
+/// 19 with the first, the middle and the last group of a string wrong; with an integer of few, some and all digits.
+fn of_string(scheme: &Scheme, part: &Part) -> Vec<Place> {
+    let (bits, faults) = match *part {
+        Part::String { bits } => {
+            let count = bits / CHARACTER_BITS;
+            (bits, [0, count / 2, count - 1].map(Why::Group))
+        }
+        Part::NumericString(NumericString { bits, most }) => {
+            (bits, [1, most / 2 + 1, most + 1].map(|digits| Why::Digits(digits as u32)))
+        }
+        _ => return Vec::new(),
+    };
+    faults.map(|why| at(19, 0x20 + scheme.bits - bits, why)).to_vec()
+}

@@ -1,0 +1,49 @@
+//! A place that a refusal can have, and what led to it.
+use std::fmt;
+
+/// What tells an input from others that are refused with the same number at the same place.
+#[derive(Clone, Copy, PartialEq, Eq, PartialOrd, Ord)]
+pub enum Why {
+    Plain,
+    /// The part is missing at the text's end.
+    AtEnd,
+    /// The bank's word count.
+    Words(usize),
+    /// The bits that must be zero.
+    Bits(u32),
+    /// The first group of a string that is wrong.
+    Group(usize),
+    /// How many decimal digits a numeric string's integer has.
+    Digits(u32),
+}
+
+/// `row` is a partition value; a number that is given before the row is known has none.
+#[derive(Clone, Copy, PartialEq, Eq, PartialOrd, Ord)]
+pub struct Place {
+    pub scheme: Option<&'static [u8]>,
+    pub row: Option<usize>,
+    pub number: u32,
+    pub place: u32,
+    pub why: Why,
+}
+
+impl fmt::Display for Place {
+    fn fmt(&self, f: &mut fmt::Formatter) -> fmt::Result {
+        let Place { scheme, row, number, place, .. } = self;
+        write!(f, "{}, ", scheme.map_or("any scheme".into(), |name| name.escape_ascii().to_string()))?;
+        write!(f, "{}: ", row.map_or("any row".into(), |row| format!("row {row}")))?;
+        match number {
+            0..=8 => write!(f, "{number} at offset {place}")?,
+            9 => write!(f, "{number} at {place} bytes")?,
+            _ => write!(f, "{number} at {place:X}h")?,
+        }
+        match self.why {
+            Why::Plain => Ok(()),
+            Why::AtEnd => write!(f, ", the text's end"),
+            Why::Words(words) => write!(f, " of {words} words"),
+            Why::Bits(bits) => write!(f, ", the bits that must be zero being {bits:X} in hexadecimal"),
+            Why::Group(group) => write!(f, ", where group {group} is wrong, counted from 0"),
+            Why::Digits(digits) => write!(f, ", where the integer has {digits} digits"),
+        }
+    }
+}
