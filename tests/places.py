@@ -1,6 +1,7 @@
 """Texts and banks that are refused at the places of request C-12 in document 02, each with its number.
 
-tests/faults.py has every number; these are for places that no line of its shows. tests/agree says which places there are.
+tests/faults.py has faults of every kind; here are few of them, but at every place where a part can begin. tests/agree says which
+places there are.
 """
 
 from faults import zero_bits
