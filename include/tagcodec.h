@@ -75,7 +75,7 @@ enum tagcodec_number {
  *   15              the first bit, in order, that must be 0 and is 1
  *   16              2Bh
  *   17              2Eh
- *   18              the first bit of the reference: 2Eh and the prefix's bits
+ *   18              the first bit of the reference: 2Eh plus the row's prefix bits
  *   19              the first bit of the string, or of the numeric string's integer, whichever group or digit is wrong
  */
 typedef struct tagcodec_reply {

@@ -24,8 +24,9 @@ const RAW: Call = Call { name: "raw_line", pair: RAW_LINE, room: TEXT_ROOM };
 
 /// How many bytes the larger output has more than the least.
 const MORE: usize = 37;
-/// How many missing places are named.
+/// How many missing places are named, and how many bytes of a line are shown.
 const NAMED: usize = 10;
+const SHOWN: usize = 300;
 
 /// How many calls of the library there were, and the places seen.
 #[derive(Default)]
@@ -87,7 +88,8 @@ fn file(path: &str, tally: &mut Tally) -> Result<(), String> {
     let content = std::fs::read(path).map_err(|error| format!("{path}: {error}"))?;
     let lines = content.strip_suffix(b"\n").unwrap_or(&content);
     for (number, line) in (1..).zip(lines.split(|&byte| byte == b'\n')) {
-        tally.line(line).map_err(|what| format!("{path}, line {number}, \"{}\": {what}", line.escape_ascii()))?;
+        let shown = line[..line.len().min(SHOWN)].escape_ascii();
+        tally.line(line).map_err(|what| format!("{path}, line {number}, \"{shown}\": {what}"))?;
     }
     Ok(())
 }
