@@ -140,7 +140,7 @@ fn reference_alone(text: &[u8], at: usize, head: Head, reference: usize) -> Read
 {
     match digits_to_end(text, at, reference) {
         End::Is(value) => tagged(head, value, 0, [0; MOST_CHARACTERS], 0),
-        End::Refused(n, place) => refused(n, place),
+        End::Refused(number, place) => refused(number, place),
     }
 }
 

@@ -20,7 +20,7 @@ returns-2 c =
     let n = c .before .before in
     let l = n .before .before in
     let s = l .before .before in
-    c .refused .ensures ∙ not-alone (s .args .head) (n .n .given .0 .0) (n .n .given .0 .1 .0) (lastIn 6 (s .args .at) (digits 0 (s .args .reference)) (drop (s .args .at) (s .args .text .now))) (sym (n .n .given .1) ∙ l .digits-to-end .ensures)
+    c .refused .ensures ∙ not-alone (s .args .head) (n .number .given .0 .0) (n .number .given .0 .1 .0) (lastIn 6 (s .args .at) (digits 0 (s .args .reference)) (drop (s .args .at) (s .args .text .now))) (sym (n .number .given .1) ∙ l .digits-to-end .ensures)
 
 pub reference-alone-spec : {M : Type 1} → statement M
 reference-alone-spec =
