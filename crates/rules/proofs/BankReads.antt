@@ -1,19 +1,18 @@
 -- A bank is refused by the first rule that applies; taken, it is the bank of its tag.
 use Prim.Native.Nat.{ℕ, zero, suc, _+_, _-_, _*_, _^_, _≤_, _<_}
 use mathlib.Core.Path.{_≡_, refl, sym, _∙_, ap}
-use mathlib.Core.Logic.{_⊎_, inl, inr, _↔_, Iff·rfl, Iff·trans}
+use mathlib.Core.Logic.{_↔_, Iff·rfl, Iff·trans}
 use mathlib.Core.List.{List, [], _∷_, _++_}
 use mathlib.Core.Option.{Option, some}
 use mathlib.Core.Bool.{Bool, true, false, _&&_, not, cond}
 use native.Mathlib.Omega.{arith}
 use native.Mathlib.Nat.{le-trans, pow-le-pow-right}
-use lib.Dec.{T, T-not, leb, ltb, eqb, leb→le, ltb→lt, nltb→le, nleb→lt, eqb→eq, lit<}
+use lib.Dec.{T, ltb, eqb, ltb→lt, eqb→eq, lit<}
 use lib.ListN.{length, getD, take, drop, replicate, length-take, length-drop}
 use lib.Seq.{drop-drop, length-take-le, drop-cons, getD-drop}
 use Rattle.numeral.specs.Numeral.{value, Digits, spread}
 use Rattle.numeral.proofs.Values.{digits-at, digits-take, digits-drop, value-lt}
 use Rattle.numeral.proofs.Spreads.{length-spread, digits-spread}
-use Rattle.numeral.proofs.Fields.{field-more}
 use Rattle.rules.specs.Answers.{taken, _>>=_, _>>_, demand, given}
 use Rattle.rules.specs.declared.Scheme.{Scheme}
 use Rattle.rules.specs.declared.Last.the-variants.{Integer, String, Numeric}
@@ -26,8 +25,9 @@ use Rattle.rules.specs.Coding.{binary, coded, at, wordCount, bankSize}
 use Rattle.rules.specs.BankNumbers.{allZero, zerosBefore, headed, codeIn, fieldsIn, wordsIn, controlIn, tagOfBank}
 use Rattle.rules.specs.Raw.{rawText, rawOfBank}
 use Rattle.rules.specs.Conditions.{Rule, rule, OfBank, rowIn, zerosFrom, MustBeZero, OneAfter, FirstOne, NoRow, LargePrefix, LargeReference, WrongLast, LastAt, rawRules, bankRules}
-use Rattle.rules.proofs.Tests.{both, and, eq→eqb, apart, all-at}
-use Rattle.rules.proofs.Answers.{Gives, Decides, decided, Settled, Reads, settled-demand, settled-at, settled-given, settled-as, step, check, reads-map, reads-bind, done, same, reads-covers}
+use Rattle.rules.proofs.Tests.{both, eq→eqb, apart, all-at}
+use Rattle.rules.proofs.Answers.{Gives, Decides, decided, Reads, settled-demand, settled-at, settled-given, settled-as, step, check, reads-map, reads-bind, done, same, reads-covers}
+use Rattle.rules.proofs.ControlRules.{Short, enough, enough-is, settled-9, settled-10, settled-11, settled-12, control-bits}
 use Rattle.rules.proofs.Codes.{content, sizes, headed-of}
 use Rattle.rules.proofs.Banks.{Shown, control-is, code-is}
 use Rattle.rules.proofs.CodeReads.{take-inside, parts-read}
@@ -38,52 +38,6 @@ at-lt b a n =
     let S = drop (a - 0x10) (spread 2 8 b) in
     let h = value-lt 2 (take n S) (digits-take 2 n S (digits-drop 2 (a - 0x10) (spread 2 8 b) (digits-spread 2 8 b (lit< tt)))) in
     le-trans h (pow-le-pow-right (lit< tt) (rw length-take (omega arith)))
-
--- The length and the control word, rule by rule.
-abbrev Short : List ℕ → Type 0
-Short b = (length b < 2) ⊎ (length b < bankSize (wordCount b))
-
-abbrev enough : List ℕ → Bool
-enough b = leb 2 (length b) && leb (bankSize (wordCount b)) (length b)
-
-enough-is : (b : List ℕ) → T (enough b) → (2 ≤ length b) × (bankSize (wordCount b) ≤ length b)
-enough-is b h = let (x, y) = both (leb 2 (length b)) (leb (bankSize (wordCount b)) (length b)) h in (leb→le 2 (length b) x, leb→le (bankSize (wordCount b)) (length b) y)
-
-short-is : (b : List ℕ) → T (not (enough b)) → Short b
-short-is b h = go (leb 2 (length b)) refl h
-  where
-    go : (x : Bool) → leb 2 (length b) ≡ x → T (not (x && leb (bankSize (wordCount b)) (length b))) → Short b
-    go true e h = inr (nleb→lt (bankSize (wordCount b)) (length b) h)
-    go false e h = inl (nleb→lt 2 (length b) (rw e tt))
-
-not-short : (b : List ℕ) → T (enough b) → ¬ (Short b)
-not-short b h (inl k) = omega (arith, enough-is b h)
-not-short b h (inr k) = omega (arith, enough-is b h)
-
-settled-9 : (b : List ℕ) → Settled 9 (Short b) (_≡ length b) (λ _. T (enough b)) (demand (enough b) 9 (length b))
-settled-9 b = settled-demand 9 (length b) (Short b) (enough b) (short-is b) (not-short b)
-
-settled-10 : (W : ℕ) → Settled 10 (W ≡ 0) (_≡ 0x10) (λ _. T (ltb 0 W)) (demand (ltb 0 W) 10 0x10)
-settled-10 W = settled-demand 10 0x10 (W ≡ 0) (ltb 0 W) (λ t. omega (arith, nltb→le 0 W t)) (λ t e. omega (arith, ltb→lt 0 W t))
-
-settled-11 : (t : ℕ) → t < 2 → Settled 11 (t ≡ 1) (_≡ 0x17) (λ _. T (eqb t 0)) (demand (eqb t 0) 11 0x17)
-settled-11 t l = settled-demand 11 0x17 (t ≡ 1) (eqb t 0) (λ h. omega (arith, apart t 0 h)) (λ h e. omega (arith, eqb→eq t 0 h))
-
--- two bits are 0 exactly if each of them is
-settled-12 : (x y u v : ℕ) → u ≡ x * 2 + y → Settled 12 (¬ ((x ≡ 0) × (y ≡ 0) × (v ≡ 0))) (_≡ 0x15) (λ _. T (eqb u 0 && eqb v 0)) (demand (eqb u 0 && eqb v 0) 12 0x15)
-settled-12 x y u v e = settled-demand 12 0x15 (¬ ((x ≡ 0) × (y ≡ 0) × (v ≡ 0))) (eqb u 0 && eqb v 0) some-one all-zero
-  where
-    some-one : T (not (eqb u 0 && eqb v 0)) → ¬ ((x ≡ 0) × (y ≡ 0) × (v ≡ 0))
-    some-one h (p, q, r) = T-not (eqb u 0 && eqb v 0) h (and (eqb u 0) (eqb v 0) (eq→eqb u 0 (omega arith)) (eq→eqb v 0 r))
-
-    all-zero : T (eqb u 0 && eqb v 0) → ¬ (¬ ((x ≡ 0) × (y ≡ 0) × (v ≡ 0)))
-    all-zero h f =
-        let (a, b) = both (eqb u 0) (eqb v 0) h in
-        let p = eqb→eq u 0 a in
-        f (omega arith, omega arith, eqb→eq v 0 b)
-
-control-bits : (b : List ℕ) → 2 ≤ length b → at b 0x15 2 ≡ at b 0x15 1 * 2 + at b 0x16 1
-control-bits b h = field-more 2 (spread 2 8 b) 5 1 1 (omega (arith, length-spread 2 8 b))
 
 -- Of numbers that are not all zero, the one behind the zeros is none, and those before it are.
 abbrev ZerosBefore : List ℕ → ℕ → Type 0

@@ -1,5 +1,5 @@
 -- The known tags, run through the public calls: document 01's rows 1 to 14 with tagline's example, an example of
--- 001's annex for each scheme, and gdti-113, which has none there, by hand.
+-- 001's annex for each scheme, and gdti-113, which has none there, by hand; and places.
 use Prim.Native.Nat.{ℕ}
 use Prim.Native.String.{String}
 use mathlib.Core.Path.{_≡_, refl}
@@ -141,6 +141,30 @@ section12 =
     bank (words6 0x31C1_1234567890ABCDEF01234567) 11 0x17 ∷
     bank (words6 0x3000_1234567890ABCDEF01234567) 13 0x20 ∷ []
 
-pub known-tags : (map gives rows1to14 ≡ map expected rows1to14) × (map gives annex ≡ map expected annex) × (map gives by-hand ≡ map expected by-hand) × (map gives section12 ≡ map expected section12)
-unfolding rows1to14 annex by-hand section12 gives expected words6 words8 words11 words13 blank textToBank bankToText rawLine tagOfText tagOfBank rawOfBank rawText bankOf textOf gather value numeral spread sizeIn size shortest schemes rows tableA1 escaped start
-known-tags = (refl, refl, refl, refl)
+-- Places, counted by hand (document 02, C-12). A part that is missing has the offset where it would begin; 15 has its first bit that is 1, and
+-- 19 the first bit of the string, whichever group is wrong.
+unfoldable pub places : List Known
+places =
+    text "urn:epc:id:sgtin:0614141.812345.6789" 2 0 ∷
+    text "urn:epc:tag:sgtin-97:3.0614141.812345.6789" 3 12 ∷
+    text "urn:epc:tag:sgtin-96:" 4 21 ∷
+    text "urn:epc:tag:sgtin-96:3." 5 23 ∷
+    text "urn:epc:tag:gid-96:268435456.1.1" 5 19 ∷
+    text "urn:epc:tag:grai-96:3.0614141.1234.5678" 6 30 ∷
+    text "urn:epc:tag:sscc-96:3.0614141." 6 30 ∷
+    text "urn:epc:tag:gid-96:1.16777216.1" 6 21 ∷
+    text "urn:epc:tag:sgtin-198:0.0614141.812345." 7 39 ∷
+    text "urn:epc:tag:giai-96:3.0614141.05" 7 30 ∷
+    text "urn:epc:tag:gid-96:1.2.68719476736" 8 23 ∷
+    -- thirteen bytes of fourteen
+    bank (numeral 256 13 0x3000_3074257BF7194E4000001A) 9 13 ∷
+    -- two of the 24 zero bits, and the last fill bit
+    bank (words6 0x3000_3174257BF4499602D2000101) 15 0x77 ∷
+    bank (words13 0x6800_3614257BF7194E70AEC400000000000000000000000000000001) 15 0xEF ∷
+    -- the last group of a string, and an integer of 2
+    bank (words13 0x6800_3614257BF7194E70AEC400000000000000000000000000000400) 19 0x5A ∷
+    bank (words6 0x3000_3F76451FD612640000000002) 19 0x57 ∷ []
+
+pub known-tags : (map gives rows1to14 ≡ map expected rows1to14) × (map gives annex ≡ map expected annex) × (map gives by-hand ≡ map expected by-hand) × (map gives section12 ≡ map expected section12) × (map gives places ≡ map expected places)
+unfolding rows1to14 annex by-hand section12 places gives expected words6 words8 words11 words13 blank textToBank bankToText rawLine tagOfText tagOfBank rawOfBank rawText bankOf textOf gather value numeral spread sizeIn size shortest schemes rows tableA1 escaped start
+known-tags = (refl, refl, refl, refl, refl)

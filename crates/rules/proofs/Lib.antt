@@ -16,6 +16,7 @@ pub mod FieldReads
 pub mod Codes
 pub mod CodeReads
 pub mod Banks
+pub mod ControlRules
 pub mod BankReads
 pub mod OnePlace
 pub mod FirstRule

@@ -1,5 +1,5 @@
 -- Each rule has one place: a fixed one, the offset of an end of the text, the lowest address, the first bit of a last part.
-use Prim.Native.Nat.{ℕ, _-_, _≤_, _<_}
+use Prim.Native.Nat.{ℕ, _≤_, _<_}
 use mathlib.Core.Path.{_≡_, sym, _∙_, ap}
 use mathlib.Core.Logic.{⊎-elim}
 use mathlib.Core.List.{List}

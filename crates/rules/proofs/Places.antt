@@ -3,7 +3,7 @@
 use Prim.Native.Nat.{ℕ, suc, _+_, _-_, _*_, _^_, _≤_, _<_}
 use mathlib.Core.Path.{_≡_, refl, ap}
 use mathlib.Core.Logic.{_⊎_, inl, inr}
-use mathlib.Core.List.{List, [], _∷_, _++_}
+use mathlib.Core.List.{List, [], _∷_}
 use mathlib.Core.Option.{Option, none, some}
 use mathlib.Core.Bool.{Bool, true, false}
 use native.Mathlib.Omega.{arith}
@@ -15,15 +15,15 @@ use Rattle.rules.specs.declared.Last.the-variants.{Integer, String, Nume
 use Rattle.rules.specs.declared.Body.the-variants.{Then, Zeros, E}
 use Rattle.rules.specs.declared.Parts.{Parts}
 use Rattle.rules.specs.declared.Parts.the-variants.{F, Integers}
-use Rattle.rules.specs.Schemes.{Form, schemes, about, words}
-use Rattle.rules.specs.Grammar.{Tag, Layout, part, end, layout, start, label, textOf}
+use Rattle.rules.specs.Schemes.{Form, schemes, about}
+use Rattle.rules.specs.Grammar.{Layout, part, end, layout, start, label, textOf}
 use Rattle.rules.specs.Coding.{wordCount, bankOf}
 use Rattle.rules.specs.TextNumbers.{after, named, numberAt, partIn, lastIn, partsIn, tagOfText, textPlace}
 use Rattle.rules.specs.BankNumbers.{tagOfBank, bankPlace}
-use Rattle.rules.specs.Raw.{rawText, rawOfBank}
+use Rattle.rules.specs.Raw.{rawOfBank}
 use Rattle.rules.specs.Calls.{call, lent, bankRoom, textRoom, textToBank, bankToText, rawLine}
 use Rattle.rules.specs.Conditions.{Rule, Stands, First, partitionIn, LastAt, rawRules, bankRules}
-use Rattle.rules.proofs.Answers.{Settled, Reads, first-of}
+use Rattle.rules.proofs.Answers.{Settled, first-of}
 use Rattle.rules.proofs.Rows.{narrow-row}
 use Rattle.rules.proofs.Codes.{sizes}
 use Rattle.rules.proofs.Reading.{PartIs, part-settled, LastIs, lastRules, last-reads, some-number}

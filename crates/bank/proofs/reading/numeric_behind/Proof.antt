@@ -1,7 +1,6 @@
 -- The numeric string is read where the reference ends: no digits are rule 19, and any others are the record's.
 use mathlib.Core.Path.{_≡_, refl, ap, _∙_}
 use native.Mathlib.Omega.{arith}
-use borrow.Author.Needs.{needs}
 use denote.Ref.{now}
 use Rattle.numeral.specs.Numeral.{shortest}
 use Rattle.rules.specs.BankNumbers.{numericIn}

@@ -1,5 +1,5 @@
 -- A word of 64 bits has its own zeros in front of those of the narrower number.
-use Prim.Native.Nat.{ℕ, _+_, _≤_}
+use Prim.Native.Nat.{_+_, _≤_}
 use mathlib.Core.Path.{_≡_}
 use native.Mathlib.Omega.{arith}
 use lib.Count.{leadingZeros}

@@ -1,0 +1,62 @@
+-- The length and the control word of a bank, each of the rules 9 to 12 by itself: when it refuses, and where.
+use Prim.Native.Nat.{ℕ, _+_, _*_, _≤_, _<_}
+use mathlib.Core.Path.{_≡_, refl}
+use mathlib.Core.Logic.{_⊎_, inl, inr}
+use mathlib.Core.List.{List}
+use mathlib.Core.Bool.{Bool, true, false, _&&_, not}
+use native.Mathlib.Omega.{arith}
+use lib.Dec.{T, T-not, leb, ltb, eqb, leb→le, ltb→lt, nltb→le, nleb→lt, eqb→eq}
+use lib.ListN.{length}
+use Rattle.numeral.specs.Numeral.{spread}
+use Rattle.numeral.proofs.Spreads.{length-spread}
+use Rattle.numeral.proofs.Fields.{field-more}
+use Rattle.rules.specs.Answers.{demand}
+use Rattle.rules.specs.Coding.{at, wordCount, bankSize}
+use Rattle.rules.proofs.Tests.{both, and, eq→eqb, apart}
+use Rattle.rules.proofs.Answers.{Settled, settled-demand}
+
+-- 9: the words are not all there
+abbrev pub Short : List ℕ → Type 0
+Short b = (length b < 2) ⊎ (length b < bankSize (wordCount b))
+
+abbrev pub enough : List ℕ → Bool
+enough b = leb 2 (length b) && leb (bankSize (wordCount b)) (length b)
+
+pub enough-is : (b : List ℕ) → T (enough b) → (2 ≤ length b) × (bankSize (wordCount b) ≤ length b)
+enough-is b h = let (x, y) = both (leb 2 (length b)) (leb (bankSize (wordCount b)) (length b)) h in (leb→le 2 (length b) x, leb→le (bankSize (wordCount b)) (length b) y)
+
+short-is : (b : List ℕ) → T (not (enough b)) → Short b
+short-is b h = go (leb 2 (length b)) refl h
+  where
+    go : (x : Bool) → leb 2 (length b) ≡ x → T (not (x && leb (bankSize (wordCount b)) (length b))) → Short b
+    go true e h = inr (nleb→lt (bankSize (wordCount b)) (length b) h)
+    go false e h = inl (nleb→lt 2 (length b) (rw e tt))
+
+not-short : (b : List ℕ) → T (enough b) → ¬ (Short b)
+not-short b h (inl k) = omega (arith, enough-is b h)
+not-short b h (inr k) = omega (arith, enough-is b h)
+
+pub settled-9 : (b : List ℕ) → Settled 9 (Short b) (_≡ length b) (λ _. T (enough b)) (demand (enough b) 9 (length b))
+settled-9 b = settled-demand 9 (length b) (Short b) (enough b) (short-is b) (not-short b)
+
+pub settled-10 : (W : ℕ) → Settled 10 (W ≡ 0) (_≡ 0x10) (λ _. T (ltb 0 W)) (demand (ltb 0 W) 10 0x10)
+settled-10 W = settled-demand 10 0x10 (W ≡ 0) (ltb 0 W) (λ t. omega (arith, nltb→le 0 W t)) (λ t e. omega (arith, ltb→lt 0 W t))
+
+pub settled-11 : (t : ℕ) → t < 2 → Settled 11 (t ≡ 1) (_≡ 0x17) (λ _. T (eqb t 0)) (demand (eqb t 0) 11 0x17)
+settled-11 t l = settled-demand 11 0x17 (t ≡ 1) (eqb t 0) (λ h. omega (arith, apart t 0 h)) (λ h e. omega (arith, eqb→eq t 0 h))
+
+-- two bits are 0 exactly if each of them is
+pub settled-12 : (x y u v : ℕ) → u ≡ x * 2 + y → Settled 12 (¬ ((x ≡ 0) × (y ≡ 0) × (v ≡ 0))) (_≡ 0x15) (λ _. T (eqb u 0 && eqb v 0)) (demand (eqb u 0 && eqb v 0) 12 0x15)
+settled-12 x y u v e = settled-demand 12 0x15 (¬ ((x ≡ 0) × (y ≡ 0) × (v ≡ 0))) (eqb u 0 && eqb v 0) some-one all-zero
+  where
+    some-one : T (not (eqb u 0 && eqb v 0)) → ¬ ((x ≡ 0) × (y ≡ 0) × (v ≡ 0))
+    some-one h (p, q, r) = T-not (eqb u 0 && eqb v 0) h (and (eqb u 0) (eqb v 0) (eq→eqb u 0 (omega arith)) (eq→eqb v 0 r))
+
+    all-zero : T (eqb u 0 && eqb v 0) → ¬ (¬ ((x ≡ 0) × (y ≡ 0) × (v ≡ 0)))
+    all-zero h f =
+        let (a, b) = both (eqb u 0) (eqb v 0) h in
+        let p = eqb→eq u 0 a in
+        f (omega arith, omega arith, eqb→eq v 0 b)
+
+pub control-bits : (b : List ℕ) → 2 ≤ length b → at b 0x15 2 ≡ at b 0x15 1 * 2 + at b 0x16 1
+control-bits b h = field-more 2 (spread 2 8 b) 5 1 1 (omega (arith, length-spread 2 8 b))
