@@ -7,11 +7,12 @@ use native.Mathlib.Omega.{arith}
 use lib.Dec.{lit≤}
 use lib.ListN.{length}
 use Rattle.rules.specs.Answers.{refused, taken}
+use Rattle.rules.specs.Bytes.{upto}
 use Rattle.rules.specs.declared.Scheme.{Scheme}
 use Rattle.rules.specs.Schemes.{schemes, about, words, zeroBits}
 use Rattle.rules.specs.Coding.{binary}
 use Rattle.rules.specs.Conditions.{zerosFrom}
-use Rattle.rules.specs.BankNumbers.{zerosBefore, headed, controlIn, tagOfBank}
+use Rattle.rules.specs.BankNumbers.{headed, controlIn, tagOfBank}
 use Rattle.rules.proofs.Codes as Codes
 use Rattle.rules.proofs.BankReads.{clean-of}
 use Rattle.scheme.specs.declared.outlines.Outline.{Outline}
@@ -85,7 +86,7 @@ module _ (b : List ℕ) (W : ℕ) (c : controlIn b ≡ taken W) (h : ℕ) (eh : 
         rest-is = ex ∙ rw (end-is, words-same)
 
         -- the first one bit of those behind the parts
-        pub not-zero : ¬ (x ≡ 0) → tagOfBank b ≡ refused 15 (0x20 + (l .bits - z + zerosBefore (binary (16 * W - (l .bits - z)) x)))
+        pub not-zero : ¬ (x ≡ 0) → tagOfBank b ≡ refused 15 (0x20 + (l .bits - z + length (upto 1 (binary (16 * W - (l .bits - z)) x))))
         not-zero h = one-after b W c s found words-same (rw (← rest-is) h) ∙ rw (end-is, words-same, rest-is)
 
         pub coded : x ≡ 0 → Coded b s (l .parts)

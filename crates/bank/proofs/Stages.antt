@@ -8,12 +8,13 @@ use lib.Dec.{eqb}
 use lib.ListN.{length, drop}
 use borrow.Author.Tests.{eq-eqb, ne-eqb}
 use Rattle.rules.specs.Answers.{Answer, refused, taken, _>>=_, _>>_, demand, given}
+use Rattle.rules.specs.Bytes.{upto}
 use Rattle.rules.specs.declared.Scheme.{Scheme}
 use Rattle.rules.specs.Schemes.{schemes, words}
 use Rattle.rules.specs.Grammar.{layout, Tag}
 use Rattle.rules.specs.Coding.{binary, at, wordCount, bankSize}
 use Rattle.rules.specs.Conditions.{zerosFrom}
-use Rattle.rules.specs.BankNumbers.{allZero, zerosBefore, headed, codeIn, fieldsIn, controlIn, tagOfBank}
+use Rattle.rules.specs.BankNumbers.{allZero, headed, codeIn, fieldsIn, controlIn, tagOfBank}
 use Rattle.rules.proofs.Codes.{sizes}
 use Rattle.rules.proofs.BankReads.{Clean, clean-of, code-seen}
 use Rattle.rules.specs.declared.Parts.{Parts}
@@ -26,7 +27,7 @@ abbrev coded : List ℕ → Option Scheme → Answer Tag
 coded b o = do
   s ← given o 13 0x20
   demand (eqb (wordCount b) (words s)) 14 0x10
-  demand (allZero (drop (zerosFrom s) (codeIn b))) 15 (0x20 + (zerosFrom s + zerosBefore (drop (zerosFrom s) (codeIn b))))
+  demand (allZero (drop (zerosFrom s) (codeIn b))) 15 (0x20 + (zerosFrom s + length (upto 1 (drop (zerosFrom s) (codeIn b)))))
   ps ← fieldsIn 0x28 (layout s) (drop 8 (codeIn b))
   taken (record { scheme = s; parts = ps })
 
@@ -50,7 +51,7 @@ module _ (b : List ℕ) (W : ℕ) (e : controlIn b ≡ taken W) where
 
     module _ (count : W ≡ words s) where
       scheme-tag : (t : ℕ) → codeField b (zerosFrom s) (16 * words s - zerosFrom s) ≡ t
-          → tagOfBank b ≡ (demand (eqb t 0) 15 (0x20 + (zerosFrom s + zerosBefore (drop (zerosFrom s) (codeIn b)))) >> (fieldsIn 0x28 (layout s) (drop 8 (codeIn b)) >>= λ ps. taken (record { scheme = s; parts = ps })))
+          → tagOfBank b ≡ (demand (eqb t 0) 15 (0x20 + (zerosFrom s + length (upto 1 (drop (zerosFrom s) (codeIn b))))) >> (fieldsIn 0x28 (layout s) (drop 8 (codeIn b)) >>= λ ps. taken (record { scheme = s; parts = ps })))
       scheme-tag t f =
           let same : wordCount b ≡ words s = sym (clean .count) ∙ count in
           let inside : zerosFrom s ≤ 16 * wordCount b = omega (arith, sizes s .inside) in
@@ -63,7 +64,7 @@ module _ (b : List ℕ) (W : ℕ) (e : controlIn b ≡ taken W) where
           rw (← same) (bits-seen b long (zerosFrom s) (omega (arith, sizes s .inside, same)))
 
       pub one-after : ¬ (codeField b (zerosFrom s) (16 * words s - zerosFrom s) ≡ 0)
-          → tagOfBank b ≡ refused 15 (0x20 + (zerosFrom s + zerosBefore (binary (16 * words s - zerosFrom s) (codeField b (zerosFrom s) (16 * words s - zerosFrom s)))))
+          → tagOfBank b ≡ refused 15 (0x20 + (zerosFrom s + length (upto 1 (binary (16 * words s - zerosFrom s) (codeField b (zerosFrom s) (16 * words s - zerosFrom s))))))
       one-after w = scheme-tag _ refl ∙ rw (ne-eqb (codeField b (zerosFrom s) (16 * words s - zerosFrom s)) 0 w, fill-bits)
 
 -- The parts, once the scheme is known.

@@ -5,8 +5,8 @@ use scheme::counts::CodeBit;
 ghost use mathlib.Core.Path.{_≡_};
 ghost use Prim.Native.Nat.{_^_, _≤_, _<_};
 ghost use lib.ListN.{length};
+ghost use Rattle.rules.specs.Bytes.{upto};
 ghost use Rattle.rules.specs.Coding.{binary, at};
-ghost use Rattle.rules.specs.BankNumbers.{zerosBefore};
 ghost use Rattle.fields.specs.BitReaders.{Lies, LiesInCode, stepOf, readerOf, takenOf};
 
 // The number in the `width` bits from a bank address on.
@@ -38,7 +38,7 @@ pub fn step_at(bank: &[u8], c: CodeBit, width: usize) -> Step
 // How many of the `width` bits of a number that is not 0 stand before its first one bit.
 pub fn zeros_before(v: u64, width: usize) -> usize
     requires { ⌜ (0 < v) × (v < 2 ^ width) × (width ≤ 64) ⌝ }
-    ensures { λ r. ⌜ r ≡ zerosBefore (binary width v) ⌝ }
+    ensures { λ r. ⌜ r ≡ length (upto 1 (binary width v)) ⌝ }
 {
     u64::leading_zeros(v) as usize + width - 64
 }

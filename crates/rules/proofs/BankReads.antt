@@ -11,9 +11,10 @@ use lib.Dec.{T, ltb, eqb, ltb→lt, eqb→eq, lit<}
 use lib.ListN.{length, getD, take, drop, replicate, length-take, length-drop}
 use lib.Seq.{drop-drop, length-take-le, drop-cons, getD-drop}
 use Rattle.numeral.specs.Numeral.{value, Digits, spread}
-use Rattle.numeral.proofs.Values.{digits-at, digits-take, digits-drop, value-lt}
+use Rattle.numeral.proofs.Values.{digits-take, digits-drop, value-lt}
 use Rattle.numeral.proofs.Spreads.{length-spread, digits-spread}
 use Rattle.rules.specs.Answers.{taken, _>>=_, _>>_, demand, given}
+use Rattle.rules.specs.Bytes.{upto}
 use Rattle.rules.specs.declared.Scheme.{Scheme}
 use Rattle.rules.specs.declared.Last.the-variants.{Integer, String, Numeric}
 use Rattle.rules.specs.declared.Body.the-variants.{Then, Zeros, E}
@@ -22,10 +23,10 @@ use Rattle.rules.specs.declared.Parts.the-variants.{F, Integers}
 use Rattle.rules.specs.Schemes.{schemes, about, words, zeroBits, prefixBits}
 use Rattle.rules.specs.Grammar.{layout, Fits}
 use Rattle.rules.specs.Coding.{binary, coded, at, wordCount, bankSize}
-use Rattle.rules.specs.BankNumbers.{allZero, zerosBefore, headed, codeIn, fieldsIn, wordsIn, controlIn, tagOfBank}
+use Rattle.rules.specs.BankNumbers.{allZero, headed, codeIn, fieldsIn, wordsIn, controlIn, tagOfBank}
 use Rattle.rules.specs.Raw.{rawText, rawOfBank}
 use Rattle.rules.specs.Conditions.{Rule, rule, OfBank, rowIn, zerosFrom, MustBeZero, OneAfter, FirstOne, NoRow, LargePrefix, LargeReference, WrongLast, LastAt, rawRules, bankRules}
-use Rattle.rules.proofs.Tests.{both, eq→eqb, apart, all-at}
+use Rattle.rules.proofs.Tests.{both, apart, all-at}
 use Rattle.rules.proofs.Answers.{Gives, Decides, decided, Reads, settled-demand, settled-at, settled-given, settled-as, step, check, reads-map, reads-bind, done, same, reads-covers}
 use Rattle.rules.proofs.ControlRules.{Short, enough, enough-is, settled-9, settled-10, settled-11, settled-12, control-bits}
 use Rattle.rules.proofs.Codes.{content, sizes, headed-of}
@@ -39,28 +40,28 @@ at-lt b a n =
     let h = value-lt 2 (take n S) (digits-take 2 n S (digits-drop 2 (a - 0x10) (spread 2 8 b) (digits-spread 2 8 b (lit< tt)))) in
     le-trans h (pow-le-pow-right (lit< tt) (rw length-take (omega arith)))
 
--- Of numbers that are not all zero, the one behind the zeros is none, and those before it are.
-abbrev ZerosBefore : List ℕ → ℕ → Type 0
-ZerosBefore l z = (z < length l) × (¬ (getD l z 0 ≡ 0)) × ((i : ℕ) → i < z → getD l i 0 ≡ 0)
+-- Of bits that are not all zero the one behind the run up to the first 1 is 1, and those before it are 0.
+abbrev FirstAt : List ℕ → ℕ → Type 0
+FirstAt l z = (z < length l) × (getD l z 0 ≡ 1) × ((i : ℕ) → i < z → getD l i 0 ≡ 0)
 
-zeros-before : (l : List ℕ) → T (not (allZero l)) → ZerosBefore l (zerosBefore l)
-zeros-before [] h = absurd h
-zeros-before (x ∷ xs) h = go (eqb x 0) refl (zeros-before xs) h
+first-at : (l : List ℕ) → Digits 2 l → T (not (allZero l)) → FirstAt l (length (upto 1 l))
+first-at [] d h = absurd h
+first-at (x ∷ xs) d h = go (eqb 1 x) refl (first-at xs (d .1))
   where
-    go : (t : Bool) → eqb x 0 ≡ t → (T (not (allZero xs)) → ZerosBefore xs (zerosBefore xs)) → T (not (t && allZero xs)) → ZerosBefore (x ∷ xs) (cond t (suc (zerosBefore xs)) 0)
-    go true e ih h =
-        let (l, k, z) = ih h in
-        let first : x ≡ 0 = eqb→eq x 0 (rw e tt) in
-        (omega arith, k, earlier first z)
+    go : (t : Bool) → eqb 1 x ≡ t → (T (not (allZero xs)) → FirstAt xs (length (upto 1 xs))) → FirstAt (x ∷ xs) (length (cond t [] (x ∷ upto 1 xs)))
+    go true e ih = (omega arith, sym (eqb→eq 1 x (rw e tt)), λ i l. absurd (omega arith))
+    go false e ih =
+        let zero-bit : x ≡ 0 = omega (arith, d .0, apart 1 x (rw e tt)) in
+        let (l, k, z) = ih (rw zero-bit at h) in
+        (omega arith, k, earlier zero-bit z)
       where
-        earlier : x ≡ 0 → ((i : ℕ) → i < zerosBefore xs → getD xs i 0 ≡ 0) → (i : ℕ) → i < suc (zerosBefore xs) → getD (x ∷ xs) i 0 ≡ 0
-        earlier first z zero l = first
-        earlier first z (suc i) l = z i (omega arith)
-    go false e ih h = (omega arith, (λ q. rw e at (eq→eqb x 0 q)), λ i l. absurd (omega arith))
+        earlier : x ≡ 0 → ((i : ℕ) → i < length (upto 1 xs) → getD xs i 0 ≡ 0) → (i : ℕ) → i < suc (length (upto 1 xs)) → getD (x ∷ xs) i 0 ≡ 0
+        earlier zero-bit z zero l = zero-bit
+        earlier zero-bit z (suc i) l = z i (omega arith)
 
 -- the address of the first one bit behind the first n of the code
 abbrev one-at : List ℕ → ℕ → ℕ
-one-at b n = 0x20 + (n + zerosBefore (drop n (codeIn b)))
+one-at b n = 0x20 + (n + length (upto 1 (drop n (codeIn b))))
 
 -- A bank that has its words: the code is its bits from 20h on.
 module _ (b : List ℕ) (long : bankSize (wordCount b) ≤ length b) where
@@ -87,13 +88,12 @@ module _ (b : List ℕ) (long : bankSize (wordCount b) ≤ length b) where
   first-one : (n : ℕ) → T (not (allZero (drop n (codeIn b)))) → FirstOne b n (one-at b n)
   first-one n h =
       let c = drop n (codeIn b) in
-      let i = zerosBefore c in
-      let (l, k, z) = zeros-before c h in
-      let bit = digits-at 2 c i (digits-drop 2 n (codeIn b) code-bits) l in
+      let i = length (upto 1 c) in
+      let (l, k, z) = first-at c (digits-drop 2 n (codeIn b) code-bits) h in
       let m = length-drop n (codeIn b) in
-      ((omega arith, omega (arith, m, code-length)), omega (arith, tail-seen n i l, k), before z)
+      ((omega arith, omega (arith, m, code-length)), tail-seen n i l ∙ k, before z)
     where
-      before : ((i : ℕ) → i < zerosBefore (drop n (codeIn b)) → getD (drop n (codeIn b)) i 0 ≡ 0) → (a : ℕ) → MustBeZero b n a → a < one-at b n → at b a 1 ≡ 0
+      before : ((i : ℕ) → i < length (upto 1 (drop n (codeIn b))) → getD (drop n (codeIn b)) i 0 ≡ 0) → (a : ℕ) → MustBeZero b n a → a < one-at b n → at b a 1 ≡ 0
       before z a must l =
           let i = a - (0x20 + n) in
           let q : a ≡ 0x20 + (n + i) = omega (arith, must .0) in

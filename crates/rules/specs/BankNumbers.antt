@@ -1,6 +1,6 @@
 -- Bank to text: the number and the place of a bank (document 01, "Numbers given, and when": 9 to 19; document 02, C-12). A reader is told
 -- at which address its bits begin.
-use Prim.Native.Nat.{ℕ, suc, _+_, _-_, _*_, _/_, _^_}
+use Prim.Native.Nat.{ℕ, _+_, _-_, _*_, _/_, _^_}
 use mathlib.Core.List.{List, [], _∷_}
 use mathlib.Core.Option.{Option, none, some, Option·map}
 use mathlib.Core.Bool.{Bool, _&&_, not, cond}
@@ -8,7 +8,7 @@ use lib.Dec.{leb, ltb, eqb}
 use lib.ListN.{length, take, drop}
 use Rattle.numeral.specs.Numeral.{value, numeral, spread, gather, shortest}
 use Rattle.rules.specs.Answers.{Answer, taken, _>>=_, _>>_, demand, given, kept, numberOf, placeOf}
-use Rattle.rules.specs.Bytes.{all}
+use Rattle.rules.specs.Bytes.{all, upto}
 use Rattle.rules.specs.declared.Scheme.{Scheme}
 use Rattle.rules.specs.Schemes.{Form, company, digits, integer, string, atMost, numeric, schemes, about, words, zeroBits, rowAt, prefixBits, prefixDigits}
 use Rattle.rules.specs.Characters.{character}
@@ -34,11 +34,6 @@ decimal m a b n l = do
 
 abbrev pub allZero : List ℕ → Bool
 allZero = all λ x. eqb x 0
-
--- how many zeros stand before the first that is none
-abbrev pub zerosBefore : List ℕ → ℕ
-zerosBefore [] = 0
-zerosBefore (x ∷ xs) = let n = suc (zerosBefore xs) in cond (eqb x 0) n 0
 
 -- the groups before the first zero, if only zeros follow
 abbrev pub leading : List ℕ → Option (List ℕ)
@@ -118,7 +113,7 @@ tagOfBank b = do
   s ← given (headed (value 2 (take 8 code)) schemes) 13 0x20
   demand (eqb W (words s)) 14 0x10
   let n = about s .bits - zeroBits (about s .parts)
-  demand (allZero (drop n code)) 15 (0x20 + (n + zerosBefore (drop n code)))
+  demand (allZero (drop n code)) 15 (0x20 + (n + length (upto 1 (drop n code))))
   ps ← fieldsIn 0x28 (layout s) (drop 8 code)
   taken (record { scheme = s; parts = ps })
 

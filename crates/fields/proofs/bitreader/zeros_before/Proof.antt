@@ -3,13 +3,14 @@ use Prim.Native.Nat.{_+_, _≤_}
 use mathlib.Core.Path.{_≡_}
 use native.Mathlib.Omega.{arith}
 use lib.Count.{leadingZeros}
+use lib.ListN.{length}
+use Rattle.rules.specs.Bytes.{upto}
 use Rattle.rules.specs.Coding.{binary}
-use Rattle.rules.specs.BankNumbers.{zerosBefore}
 use Rattle.fields.proofs.Zeros.{zeros-before}
 use Rattle.fields.proofs.bitreader.zeros_before.Statement.{statement}
 use Rattle.fields.proofs.bitreader.zeros_before.Tie as tie
 
-zeros : (c : tie.Start) → (leadingZeros 64 (c .args .v) + c .args .width ≡ zerosBefore (binary (c .args .width) (c .args .v)) + 64) × (leadingZeros 64 (c .args .v) ≤ 64)
+zeros : (c : tie.Start) → (leadingZeros 64 (c .args .v) + c .args .width ≡ length (upto 1 (binary (c .args .width) (c .args .v))) + 64) × (leadingZeros 64 (c .args .v) ≤ 64)
 zeros c = zeros-before (c .args .v) (c .args .width) (c .pre .0) (c .pre .1) (c .pre .2)
 
 cast-result : tie.Need-cast-result
