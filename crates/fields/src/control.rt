@@ -66,7 +66,7 @@ pub fn words(bank: &[u8]) -> Control
     }
 }
 
-// Rules 9 to 12: the other eleven control bits are 0 too.
+// Rules 9 to 12: the other eleven control bits are 0 too. 12's place is 15h, whichever bit it is.
 pub fn clean(bank: &[u8]) -> Control
     ensures { λ r. ⌜ r ≡ controlOf (controlIn (now (bank .entry))) ⌝ }
 {

@@ -1,5 +1,5 @@
-// A text to the record of its tag, read left to right (document 01, "Numbers given, and when": 2 to 8), with
-// the place of a refusal: each reader says where it began (document 02, C-12).
+// A text to the record of its tag, read left to right (document 01, "Numbers given, and when": 2 to 8), with the place of a refusal: each
+// reader says where it began (document 02, C-12).
 use parts::End;
 use parts::Form;
 use parts::Named;
