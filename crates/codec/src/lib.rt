@@ -14,7 +14,7 @@ pub const BANK_ROOM: usize = 64;
 pub const TEXT_ROOM: usize = 160;
 
 // What a call gives: accepted with the length written, or refused with a number ("Numbers given, and when") and its place (document 02, C-12):
-// an offset in the text, or an address in the bank.
+// an offset in the text, an address in the bank, or for 9 the number of bytes lent.
 pub enum Answer {
     Written(usize),
     Refused(u8, usize),
