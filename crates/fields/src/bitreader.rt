@@ -35,9 +35,9 @@ pub fn step_at(bank: &[u8], c: CodeBit, width: usize) -> Step
     }
 }
 
-// How many of the `width` bits of a number that is not 0 stand before its first one bit.
+// How many of the `width` bits of a number stand before its first one bit; for 0, all of them.
 pub fn zeros_before(v: u64, width: usize) -> usize
-    requires { ⌜ (0 < v) × (v < 2 ^ width) × (width ≤ 64) ⌝ }
+    requires { ⌜ (v < 2 ^ width) × (width ≤ 64) ⌝ }
     ensures { λ r. ⌜ r ≡ length (upto 1 (binary width v)) ⌝ }
 {
     u64::leading_zeros(v) as usize + width - 64

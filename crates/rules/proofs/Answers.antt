@@ -1,7 +1,7 @@
 -- What an answer says: which rule refused, or that what is taken is right and no rule applies.
 use Prim.Native.Nat.{ℕ, _<_}
 use mathlib.Core.Path.{_≡_, refl, sym, _∙_}
-use mathlib.Core.Logic.{inl, inr, _↔_}
+use mathlib.Core.Logic.{inl, inr, _↔_, Iff·rfl}
 use mathlib.Core.List.{List, [], _∷_, _++_}
 use mathlib.Core.Option.{Option, none, some}
 use mathlib.Core.Bool.{Bool, true, false, not}
@@ -117,6 +117,13 @@ pub data Covers : List Rule → List Rule → Type 1 where
   done : Covers [] []
   same : {r q : Rule} {rs qs : List Rule} → r .number ≡ q .number → r .applies ↔ q .applies → ((p : ℕ) → r .place p → q .place p) → Covers rs qs → Covers (r ∷ rs) (q ∷ qs)
   extra : {q : Rule} {rs qs : List Rule} → ¬ (q .applies) → Covers rs qs → Covers rs (q ∷ qs)
+
+-- a rule whose place stays: in other words, and in the same
+pub alike : {n : ℕ} {P Q : Type 0} {Place : ℕ → Type 0} {rs qs : List Rule} → P ↔ Q → Covers rs qs → Covers (rule n P Place ∷ rs) (rule n Q Place ∷ qs)
+alike e c = same refl e (λ p h. h) c
+
+pub stays : {n : ℕ} {P : Type 0} {Place : ℕ → Type 0} {rs qs : List Rule} → Covers rs qs → Covers (rule n P Place ∷ rs) (rule n P Place ∷ qs)
+stays c = alike Iff·rfl c
 
 first-covers : {rs qs : List Rule} → Covers rs qs → (n p : ℕ) → First rs n p → First qs n p
 first-covers done n p k = k

@@ -27,7 +27,7 @@ use Rattle.rules.specs.BankNumbers.{allZero, headed, codeIn, fieldsIn, w
 use Rattle.rules.specs.Raw.{rawText, rawOfBank}
 use Rattle.rules.specs.Conditions.{Rule, rule, OfBank, rowIn, zerosFrom, MustBeZero, OneAfter, FirstOne, NoRow, LargePrefix, LargeReference, WrongLast, LastAt, rawRules, bankRules}
 use Rattle.rules.proofs.Tests.{both, apart, all-at}
-use Rattle.rules.proofs.Answers.{Gives, Decides, decided, Reads, settled-demand, settled-at, settled-given, settled-as, step, check, reads-map, reads-bind, done, same, reads-covers}
+use Rattle.rules.proofs.Answers.{Gives, Decides, decided, Reads, settled-demand, settled-at, settled-given, settled-as, step, check, reads-map, reads-bind, done, same, alike, reads-covers}
 use Rattle.rules.proofs.ControlRules.{Short, enough, enough-is, settled-9, settled-10, settled-11, settled-12, control-bits}
 use Rattle.rules.proofs.Codes.{content, sizes, headed-of}
 use Rattle.rules.proofs.Banks.{Shown, control-is, code-is}
@@ -168,9 +168,9 @@ module _ (b : List ℕ) (s : Scheme) (long : bankSize (wordCount b) ≤ length b
       let r = parts-read b (drop 8 (codeIn b)) n (digits-drop 2 8 (codeIn b) (code-bits b long)) (rw length-drop (omega (arith, code-length b long))) (λ p w h. seen p w (omega arith)) (about s .parts) (sizes s .parts) in
       let (wrong, place) = last-alike b (about s .bits) (8 + n) (about s .parts) (sizes s .whole) in
       reads-covers PartsShown (fieldsIn 0x28 (layout s) (drop 8 (codeIn b)))
-      (same refl (of λ s. NoRow b (about s .parts)) (λ p h. h)
-      (same refl (of λ s. LargePrefix b (about s .parts)) (λ p h. h)
-      (same refl (of λ s. LargeReference b (about s .parts)) (λ p h. h)
+      (alike (of λ s. NoRow b (about s .parts))
+      (alike (of λ s. LargePrefix b (about s .parts))
+      (alike (of λ s. LargeReference b (about s .parts))
       (same refl (Iff·trans wrong (of λ s. WrongLast b (about s .bits) (about s .parts))) (λ p h. (s, e, place p h)) done))))
       (r .reads)
     where

@@ -20,7 +20,7 @@ use Rattle.rules.specs.Grammar.{Role, Layout, part, end, laid, bodyLayou
 use Rattle.rules.specs.Coding.{partBits, coded, at}
 use Rattle.rules.specs.BankNumbers.{Field, fieldIn, fieldsIn}
 use Rattle.rules.specs.Conditions.{Rule, rule, partitionIn, rowIn, NoRow, LargePrefix, LargeCell, LargeReference, WrongGroups, OneThen, WrongLast, LastAt}
-use Rattle.rules.proofs.Answers.{Reads, reads-map, reads-bind, Covers, done, same, extra, reads-covers}
+use Rattle.rules.proofs.Answers.{Reads, reads-map, reads-bind, Covers, done, same, extra, alike, stays, reads-covers}
 use Rattle.rules.proofs.Numbers.{read}
 use Rattle.rules.proofs.Rows.{by-count, narrow-row}
 use Rattle.rules.proofs.Fields.{width, Roomy, part-length}
@@ -133,7 +133,7 @@ module _ (b l : List ℕ) (n : ℕ) (d : Digits 2 l) (long : n ≤ length l) (se
       let p = 6 + prefixBits (rowOf m) in
       let w = cell t (rowOf m) .0 in
       let a : 0x28 + p + w ≡ 0x28 + (p + w) = omega arith in
-      covered (same refl (cell-seen t m e (h .1)) (cell-at m e) (same refl Iff·rfl (λ p h. h) done))
+      covered (same refl (cell-seen t m e (h .1)) (cell-at m e) (stays done))
       (row-goes-on t w (cell t (rowOf m) .1) (h .0) (tail-bits p) (tail-long p w (h .1)) λ _.
       rw (drop-drop w p l, a) (end-reads t _ (p + w) x (h .2) (h .1)))
   body-reads (Zeros t z) m e h =
@@ -156,7 +156,7 @@ module _ (b l : List ℕ) (n : ℕ) (d : Digits 2 l) (long : n ≤ length l) (se
   parts-read (F body) h =
       goes-on tt d (omega arith) λ c i.
       rw (rest-is 0x28 (integer 3) l c tt i, i .2)
-      (covered (same refl row-seen (λ p h. h) (same refl prefix-seen (λ p h. h) (same refl Iff·rfl (λ p h. h) (same refl Iff·rfl (λ p h. h) done))))
+      (covered (alike row-seen (alike prefix-seen (stays (stays done))))
       (goes-on tt (tail-bits 3) (tail-long 3 43 (omega arith)) λ c j.
       let m = length (c .symbols) in
       let p = 3 + prefixBits (rowOf m) in

@@ -21,7 +21,7 @@ use Rattle.rules.proofs.TextReads
 use Rattle.rules.proofs.Banks
 use Rattle.rules.proofs.BankReads
 use Rattle.rules.proofs.Exact
-use Rattle.rules.proofs.OnePlace.{one-place-of-text, one-place-of-bank, one-place-of-raw}
+use Rattle.rules.proofs.OnePlace.{fixed, one-place-of-text, one-place-of-bank, one-place-of-raw}
 use Rattle.rules.proofs.Lengths.{text-length, bank-size, raw-length}
 
 -- what is written is right, and there is room for it
@@ -68,7 +68,7 @@ same-length rs Right out (taken w) h = rw (length-append, length-drop) (omega (a
 
 -- rule 1, then the call's own
 lent-places : (room : ℕ) (rs : List Rule) (out : List ℕ) → OnePlace rs → OnePlace (Short room out ∷ rs)
-lent-places room rs out o = ((λ p q h k. h ∙ sym k), o)
+lent-places room rs out o = (fixed 0, o)
 
 lent-reads : (room : ℕ) (rs : List Rule) (Right : List ℕ → Type 0) (out : List ℕ) (a : Answer (List ℕ)) → (room ≤ length out → Reads rs (Fitting Right out) a)
     → Reads (Short room out ∷ rs) (Fitting Right out) (lent room out a)

@@ -17,7 +17,7 @@ use Rattle.rules.proofs.Answers.{OnePlace}
 use Rattle.rules.proofs.TextReads.{of-text}
 use Rattle.rules.proofs.BankReads.{of-bank}
 
-fixed : (c p q : ℕ) → p ≡ c → q ≡ c → p ≡ q
+pub fixed : (c p q : ℕ) → p ≡ c → q ≡ c → p ≡ q
 fixed c p q h k = h ∙ sym k
 
 one-beginning : (t x : List ℕ) (p q : ℕ) → Begins t x p → Begins t x q → p ≡ q

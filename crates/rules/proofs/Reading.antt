@@ -22,7 +22,7 @@ use Rattle.rules.specs.Schemes.{Form, integer, cell, rowDigits, assetBit
 use Rattle.rules.specs.Grammar.{Role, filter, prefix, reference, last, Layout, part, end, laid, bodyLayout, Fit, Fits, more, one, written, spelled, digit, shaped, sized}
 use Rattle.rules.specs.TextNumbers.{formed, numberAt, partIn, lastIn, partsIn}
 use Rattle.rules.specs.Conditions.{Rule, rule, Whole, zero-alone, leading, Formed, TooLarge, Stands, NoFilter, NoPrefix, NoCell, NoReference, OfEnd, OfLast, fromFilter, fromPrefix, fromReference, fromEnd, fromLast, Begins}
-use Rattle.rules.proofs.Answers.{Decides, Settled, Reads, settled-given, settled-at, settled-where, settled-as, step, check, reads-map, Covers, done, same, extra, reads-covers}
+use Rattle.rules.proofs.Answers.{Decides, Settled, Reads, settled-given, settled-at, settled-where, settled-as, step, check, reads-map, Covers, done, extra, alike, stays, reads-covers}
 use Rattle.rules.proofs.Tests.{and}
 use Rattle.rules.proofs.Runs.{run-is, among-of, upto-of}
 use Rattle.rules.proofs.Decimals.{no-dots}
@@ -89,10 +89,6 @@ pub record LayoutReads (rs : List Rule) (i : ℕ) (l : Layout) (t : List ℕ) : 
 covered : {rs qs : List Rule} {i : ℕ} {l : Layout} {t : List ℕ} → Covers rs qs → LayoutReads rs i l t → LayoutReads qs i l t
 covered {i = i} {l = l} {t = t} c h = record { reads = reads-covers (PartsAre l t) (partsIn i l t) c (h .reads) }
 
--- a rule in the same words
-stays : {n : ℕ} {P : Type 0} {Place : ℕ → Type 0} {rs qs : List Rule} → Covers rs qs → Covers (rule n P Place ∷ rs) (rule n P Place ∷ qs)
-stays = same refl Iff·rfl λ p h. h
-
 -- behind a part and its dot the text goes on
 behind-begins : (w t : List ℕ) (i : ℕ) (f : Form) (p : List ℕ) → PartIs f t p → Begins w t i → Begins w (behind dot t) (i + length (upto dot t) + 1)
 behind-begins w t i f p h b =
@@ -130,7 +126,7 @@ module _ (w : List ℕ) where
   body-reads (Then t l) n i x b = goes-on b Iff·rfl λ p s c. ends last (lastForm l) _ (behind dot x) c
   body-reads (Zeros t z) n i x b =
       let c = cell t (rowOf n) in
-      covered (stays (extra (λ e. e) (same refl (row-not-large t (c .0) (c .1) x, λ e. absurd e) (λ p h. h) done))) (ends reference (rowDigits t (rowOf n)) i x b)
+      covered (stays (extra (λ e. e) (alike (row-not-large t (c .0) (c .1) x, λ e. absurd e) done))) (ends reference (rowDigits t (rowOf n)) i x b)
   body-reads E n i x b = covered (extra (λ e. e) (stays (stays done))) (ends last (integer (assetBits (rowOf n))) i x b)
 
 -- A filter is an integer of three bits.

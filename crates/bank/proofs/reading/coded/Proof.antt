@@ -71,22 +71,20 @@ rest-is : (c : tie.After-take2) → let z = c .before .before in
     c .take2 .result .value ≡ codeField (now (begin z .args .bank)) (outline z .about .result .bits - z .zeros .result) (16 * begin z .args .words - (outline z .about .result .bits - z .zeros .result))
 rest-is c = let z = c .before .before in taken (now (begin z .args .bank)) (record { 0 = outline z .about .result .bits - z .zeros .result }) _ (c .take2 .ensures) _ refl
 
-some-one : tie.Need-zeros-before-requires
-some-one c κs =
-    let t = c .before in
-    let z = t .before .before in
-    let b = now (begin z .args .bank) in
-    let v = t .take2 .result .value in
-    let width = 16 * begin z .args .words - (outline z .about .result .bits - z .zeros .result) in
-    let small : v < 2 ^ width = rw (rest-is t) (at-lt b (0x20 + (outline z .about .result .bits - z .zeros .result)) width) in
-    (omega (arith, c .if2 .taken), small, after z .narrow)
+-- the bits behind the parts fit a word
+fill-fits : (c : tie.After-take2) → let z = c .before .before in
+    let width = 16 * begin z .args .words - (outline z .about .result .bits - z .zeros .result) in (c .take2 .result .value < 2 ^ width) × (width ≤ 64)
+fill-fits c =
+    let z = c .before .before in
+    (rw (rest-is c) (at-lt (now (begin z .args .bank)) (0x20 + (outline z .about .result .bits - z .zeros .result)) _), after z .narrow)
 
 -- the first one stands within the code
 one-within : (c : tie.After-zeros-before) → let z = c .before .before .before .before in outline z .about .result .bits - z .zeros .result + c .zeros-before .result ≤ 496
 one-within c =
     let t = c .before .before in
     let z = t .before .before in
-    omega (arith, after z, c .zeros-before .ensures, zeros-within (t .take2 .result .value) (16 * begin z .args .words - (outline z .about .result .bits - z .zeros .result)))
+    let (small, narrow) = fill-fits t in
+    omega (arith, after z, c .zeros-before .ensures, zeros-within (t .take2 .result .value) _ small narrow)
 
 one-at : (c : tie.After-behind) → let z = c .before .before .before .before .before in c .behind .result .0 ≡ outline z .about .result .bits - z .zeros .result + c .before .zeros-before .result
 one-at c = ap (λ b. b .0) (c .behind .ensures)
@@ -130,7 +128,7 @@ coded-spec =
     (λ c. omega (arith, after (c .before)))
     (λ c. after (c .before) .inside)
     rest-lies
-    some-one
+    (λ c κs. fill-fits (c .before))
     (λ c κs. omega (arith, one-within c))
     (λ c κs. omega (arith, one-at c, one-within (c .before)))
     one-after

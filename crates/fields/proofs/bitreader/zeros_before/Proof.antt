@@ -11,7 +11,7 @@ use Rattle.fields.proofs.bitreader.zeros_before.Statement.{statement}
 use Rattle.fields.proofs.bitreader.zeros_before.Tie as tie
 
 zeros : (c : tie.Start) → (leadingZeros 64 (c .args .v) + c .args .width ≡ length (upto 1 (binary (c .args .width) (c .args .v))) + 64) × (leadingZeros 64 (c .args .v) ≤ 64)
-zeros c = zeros-before (c .args .v) (c .args .width) (c .pre .0) (c .pre .1) (c .pre .2)
+zeros c = zeros-before (c .args .v) (c .args .width) (c .pre .0) (c .pre .1)
 
 cast-result : tie.Need-cast-result
 cast-result c = omega (arith, zeros c)
