@@ -38,6 +38,11 @@ def written(call, given):
     return reply.number, reply.place, out.raw[: reply.length]
 
 
+def from_hex(text):
+    """The bytes of an even number of upper-case hex digits; None for any other text."""
+    return bytes.fromhex(text) if len(text) % 2 == 0 and set(text) <= set("0123456789ABCDEF") else None
+
+
 def show_bank(library, bank):
     number, place, tag = written(library.tagcodec_bank_to_text, bank)
     _, _, raw = written(library.tagcodec_raw_line, bank)
@@ -62,10 +67,14 @@ def main():
         sys.exit(__doc__)
     library = load(sys.argv[1])
     given = sys.argv[2] if len(sys.argv) > 2 else "30003074257BF7194E4000001A85"
+    bank = from_hex(given)
     if given.startswith("urn:"):
         show_text(library, os.fsencode(given))
+    elif bank is not None:
+        show_bank(library, bank)
     else:
-        show_bank(library, bytes.fromhex(given))
+        print(f"decode: a text that begins with urn:, or an even number of upper-case hex digits: {given}", file=sys.stderr)
+        sys.exit(2)
 
 
 main()

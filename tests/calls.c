@@ -116,7 +116,7 @@ static void places(void) {
     bank_refused("68003614257BF7194E40000000000000000000000000000000000000", 19, 0x5A);
 }
 
-/* A reply goes in two registers, and its number and length are where they were before it had a place. */
+/* A reply goes in two registers: number and place in the first, the length in the second. */
 static void reply(void) {
     expect(sizeof(tagcodec_reply) == 16, "size", "reply");
     expect(offsetof(tagcodec_reply, number) == 0, "number's offset", "reply");
