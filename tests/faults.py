@@ -1,8 +1,11 @@
-"""Texts and banks with a fault, and the number that document 01, or request C-11 of document 02, gives for it."""
+"""Texts and banks with a fault, and the number that document 01, or request C-11 or C-13 of document 02, gives for it.
+
+The faults of control fields are in tests/controls.py.
+"""
 
 from itertools import combinations
 
-from tags import TAG_START, limit, string_value, text
+from tags import TAG_START, limit, string_value
 
 NO_INTEGER = ("", "00", "01", "007", ".", "1a", "a", "-1", "+1", " 1", "1 ", "1\r", "1\xB2", "0" * 30)
 NO_FILTER = ("", "8", "9", "03", "3 ", "a", "/", ":", "\xB3", "-1", "33")
@@ -53,18 +56,18 @@ def bad_starts(tag):
 def bad_names(tag):
     name, rest = tag.scheme.name, ".".join(tag.parts())
     spelt = ("", name.upper(), name[:-1], name[1:], name + "0", name + "\0", " " + name, name.replace("-", "_"))
-    return [TAG_START + name, TAG_START + name + "." + rest, *(text(other, tag.parts()) for other in spelt)]
+    return [tag.start() + name, tag.start() + name + "." + rest, *(tag.spelt(tag.parts(), other) for other in spelt)]
 
 
 def replaced(tag, place, others):
     """The tag's text with other characters for one part."""
     parts = tag.parts()
-    return [text(tag.scheme.name, parts[:place] + [other] + parts[place + 1 :]) for other in others]
+    return [tag.spelt(parts[:place] + [other] + parts[place + 1 :]) for other in others]
 
 
 def cut(tag, place):
     """The tag's text up to the end of a part, without the dot."""
-    return text(tag.scheme.name, tag.parts()[: place + 1])
+    return tag.spelt(tag.parts()[: place + 1])
 
 
 def bad_references(tag, place, last):
@@ -113,7 +116,7 @@ def banks(tag):
     yield 9, ["", bank[:2], bank[:4], bank[:6], bank[:-4], bank[:-2]]
     yield 10, [control + rest for control in ("0000", "07FF", "0100") for rest in ("", bank[4:])]
     yield 11, [tag.bank(words << 11 | low) for low in (0x100, 0x101, 0x1FF, 0x1C1, 0x7FF, 0x500, 0x300)]
-    yield 12, [tag.bank(words << 11 | 1 << bit) for bit in range(11) if bit != 8] + [tag.bank(words << 11 | 0x6FF)]
+    yield 12, [tag.bank(words << 11 | 0x200 | low) for low in (0, 0x400, *(1 << bit for bit in range(8)), 0x4FF)]
     yield 14, [(tag.bank(other << 11) + 124 * "0")[: 4 + 4 * other] for other in range(1, 32) if other != words]
     yield 15, [f"{int(bank, 16) | 1 << bit:0{len(bank)}X}" for bit in range(zero_bits(tag))]
     if tag.has("partition"):
@@ -155,30 +158,43 @@ def text_pairs(tag):
     numbers = {"filter": 4, "prefix": 5, "reference": 6, "integer": 7, "string": 7, "numeric": 7}
     faults = [(5 + i if "filter" not in kinds else numbers[kind], i, bad[kind]) for i, kind in enumerate(kinds)]
     parts = tag.parts()
+    yield from field_pairs(tag, [parts[:i] + [other] + parts[i + 1 :] for _, i, other in faults])
     for (number, first, one), (_, second, other) in combinations(faults, 2):
         both = [one if i == first else other if i == second else part for i, part in enumerate(parts)]
-        yield number, text(tag.scheme.name, both)
-        yield 3, text("gid-95", both)
-        yield 2, "urn:epc:tab:" + text("gid-95", both)[len(TAG_START) :]
+        yield number, tag.spelt(both)
+        yield 3, tag.spelt(both, "gid-95")
+        yield 2, "urn:epc:tab:" + tag.spelt(both, "gid-95")[len(TAG_START) :]
+
+
+def field_pairs(tag, faulty):
+    """Texts with a wrong control field and another fault: another start, another name, or these parts."""
+    wrong = "[umi=0]:"
+    other = wrong + tag.spelt(faulty[0], "gid-95")[len(TAG_START) :]
+    yield 2, "urn:epc:tab:" + other
+    yield 20, TAG_START + other
+    for parts in faulty:
+        yield 20, TAG_START + wrong + tag.spelt(parts)[len(TAG_START) :]
 
 
 def bank_pairs(tag):
-    """Banks with two faults, or with all from one on, and the first one's number."""
+    """Banks with two faults, or with all from one on, and the first one's number; and one fault behind control fields."""
     numbers = [11, 12, 13, 14, 15, 16, 17, 18, 19]
     numbers = [number for number in numbers if number not in AT_FAULT or tag.has(*AT_FAULT[number])]
     for chosen in combinations(numbers, 2):
         yield chosen[0], faulty_bank(tag, chosen)
     for start in range(len(numbers)):
         yield numbers[start], faulty_bank(tag, numbers[start:])
+    for number in numbers:
+        yield number, faulty_bank(tag.controlled(1, 0xA5), [number])
 
 
 def faulty_bank(tag, numbers):
     """The tag's bank with the faults of these numbers."""
-    control = tag.scheme.words << 11
+    control = tag.control()
     for number in set(numbers) & set(AT_FAULT):
         place = tag.place(*AT_FAULT[number])
         tag = tag.changed(place, 1 if number == 19 else 2 ** tag.fields[place].bits - 1)
     tag = tag.changed(tag.place("header"), 0x38) if 13 in numbers else tag
-    control += (0x100 if 11 in numbers else 0) + (0x401 if 12 in numbers else 0)
+    control += (0x100 if 11 in numbers else 0) + (0x200 if 12 in numbers else 0)
     control += 0x800 if 14 in numbers else 0
     return tag.bank(control) + ("0000" if 14 in numbers else "")

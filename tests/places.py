@@ -1,23 +1,32 @@
-"""Texts and banks that are refused at the places of request C-12 in document 02, each with its number.
+"""Texts and banks that are refused at the places of requests C-12 and C-13 in document 02, each with its number.
 
 tests/faults.py has faults of every kind; here are few of them, but at every place where a part can begin. tests/agree says which
-places there are.
+places there are; those of 20 are shown by tests/controls.py.
 """
 
 from faults import zero_bits
-from tags import TAG_START, limit, string_value, tags, text
+from tags import TAG_START, control_fields, limit, scheme_tags, string_value, tags
 
 WRONG = "#"  # in no part that is taken
 TOO_LARGE = "9" * 31
 MOST_WORDS = 31
+CONTROLS = ((1, 0x00), (0, 0x01), (1, 0xFF))  # umi and att: the fields that a text can have differ in length
 
 
 def refused_texts():
-    """Each part missing at the text's end; wrong and, for 8, too large, wherever the row and the parts before let it begin."""
+    """Each part missing at the text's end; wrong and, for 8, too large, wherever the row and the parts before let it begin.
+
+    Behind control fields the name, and the parts of each scheme in one row.
+    """
     yield 3, TAG_START
     for tag in tags():
         for shape in shapes(tag):
             yield from wrong_parts(shape)
+    for control in CONTROLS:
+        start = TAG_START + control_fields(*control)
+        yield from ((3, start + name) for name in ("", WRONG))
+        for tag in scheme_tags():
+            yield from wrong_parts(next(shapes(tag.controlled(*control))))
 
 
 def shapes(tag):
@@ -33,13 +42,14 @@ def shapes(tag):
 
 
 def wrong_parts(tag):
-    name, parts = tag.scheme.name, tag.parts()
+    """tests/faults.py has 4 and 5 without control fields."""
+    parts = tag.parts()
     for i, number in enumerate(numbers(tag)):
-        yield number, text(name, parts[:i] + [""])
-        if number > 5:
-            yield number, text(name, parts[:i] + [WRONG] + parts[i + 1 :])
+        yield number, tag.spelt(parts[:i] + [""])
+        if number > 5 or tag.start() != TAG_START:
+            yield number, tag.spelt(parts[:i] + [WRONG] + parts[i + 1 :])
         if number == 7:
-            yield 8, text(name, parts[:i] + [TOO_LARGE])
+            yield 8, tag.spelt(parts[:i] + [TOO_LARGE])
 
 
 def numbers(tag):

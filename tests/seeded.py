@@ -6,10 +6,11 @@
 import random
 import sys
 
-from tags import CHARACTERS, SCHEMES, Tag, limit, numeric_value, partitions, string_value
+from tags import CHARACTERS, SCHEMES, TAG_START, Tag, limit, numeric_value, partitions, string_value
 
 BYTES = [chr(byte) for byte in range(256) if byte != 0x0A]
-USUAL = "0123456789.:%ABCDEFabf-_"
+USUAL = "0123456789.:%ABCDEFabf-_[]=xumit"
+PIECES = ("[umi=1]", "[att=x01]", "[att=xFE]", "[umi=0]", "[att=x00]", "[att=xa1]", "[xpc=x0004]", "[", "]", ":")
 
 
 class Random:
@@ -40,8 +41,10 @@ class Random:
         return self.below(limit(field)) >> (self.below(field.bits) if self.below(2) else 0)
 
     def tag(self):
+        """A third of the tags have control fields, but for the few whose fields are zero."""
         scheme = self.choice(SCHEMES)
-        return Tag(scheme, self.choice(partitions(scheme)), self.value)
+        tag = Tag(scheme, self.choice(partitions(scheme)), self.value)
+        return tag if self.below(3) else tag.controlled(self.below(2), self.below(2) * self.below(256))
 
 
 def good(random):
@@ -66,31 +69,44 @@ def mutated(random, tag):
 
 
 def random_bank(random):
-    """A bank with a scheme's header and word count and any bits after it; most have zeros where they must be."""
+    """A bank with a scheme's header and word count and any bits after it; most have zeros where they must be.
+
+    Of four two have no other control bit, one any that a text can say, one any.
+    """
     scheme = random.choice(SCHEMES)
     code = random.bits(16 * scheme.words - 8)
     zeros = 16 * scheme.words - scheme.bits + (24 if "zero" in scheme.parts else 0)
     if random.below(8):
         code = code >> zeros << zeros
-    bank = f"{scheme.words << 11:04X}{scheme.header:02X}{code:0{4 * scheme.words - 2}X}"
+    control = scheme.words << 11 | random.bits(11) & random.choice((0, 0, 0x4FF, 0x7FF))
+    bank = f"{control:04X}{scheme.header:02X}{code:0{4 * scheme.words - 2}X}"
     return bank + f"{random.bits(64):016X}"[: 2 * random.below(9)] if random.below(4) == 0 else bank
 
 
+def random_fields(random):
+    """A tag's text with any pieces of control fields behind its start."""
+    pieces = [random.choice(PIECES) for _ in range(1 + random.below(4))]
+    return TAG_START + "".join(pieces) + random.tag().text()[len(TAG_START) :]
+
+
 def random_bytes(random):
-    """Any bytes, any hex digits, or any of a text's usual characters after the start of a tag; some too long."""
+    """Any bytes, any hex digits, or any of a text's usual characters after the start of a tag or a field; some too long."""
     count = random.below(140 if random.below(4) else 420)
-    alphabet, start = random.choice(((BYTES, ""), ("0123456789ABCDEF", ""), (USUAL, "urn:epc:tag:"), (USUAL, "urn:")))
+    starts = (USUAL, TAG_START), (USUAL, TAG_START + "["), (USUAL, "urn:")
+    alphabet, start = random.choice(((BYTES, ""), ("0123456789ABCDEF", ""), *starts))
     return start + "".join(random.choice(alphabet) for _ in range(count))
 
 
 def line(random):
-    """Half of the lines are good; the others mutated, random banks, and random bytes, 5 to 2 to 1."""
+    """Half of the lines are good; the others mutated, random banks, random fields and random bytes, 4 to 2 to 1 to 1."""
     kind = random.below(16)
     if kind < 8:
         return good(random)
-    if kind < 13:
+    if kind < 12:
         return mutated(random, random.tag())
-    return random_bank(random) if kind < 15 else random_bytes(random)
+    if kind < 14:
+        return random_bank(random)
+    return random_fields(random) if kind == 14 else random_bytes(random)
 
 
 def main():

@@ -138,11 +138,18 @@ def field_text(field, value):
     return f"{value:0{field.digits}d}" if field.digits else ""
 
 
+def control_fields(umi, att):
+    """The control fields before a scheme's name, each only if it is not zero, and the colon behind the last."""
+    fields = ("[umi=1]" if umi else "") + (f"[att=x{att:02X}]" if att else "")
+    return fields and fields + ":"
+
+
 class Tag:
-    """A tag of a scheme: `pick` gives the value of each field that a text writes."""
+    """A tag of a scheme: `pick` gives the value of each field that a text writes. Its control bits are 0 at first."""
 
     def __init__(self, scheme, partition, pick):
         self.scheme, self.partition = scheme, partition
+        self.umi = self.att = 0
         self.fields = layout(scheme, partition)
         fixed = {"header": scheme.header, "partition": partition, "zeros": 0, "fill": 0}
         self.values = [fixed[f.kind] if f.kind in fixed else pick(f) for f in self.fields]
@@ -166,23 +173,38 @@ class Tag:
         other.values = [*self.values[:place], value, *self.values[place + 1 :]]
         return other
 
+    def controlled(self, umi, att):
+        """The tag with other control fields."""
+        other = copy.copy(self)
+        other.umi, other.att = umi, att
+        return other
+
     def parts(self):
         return [field_text(self.fields[place], self.values[place]) for place in self.written()]
 
     def text(self):
-        return text(self.scheme.name, self.parts())
+        return self.spelt(self.parts())
+
+    def spelt(self, parts, name=None):
+        """The tag's text with other parts, or under another name."""
+        name = self.scheme.name if name is None else name
+        return self.start() + name + ":" + ".".join(parts)
+
+    def start(self):
+        """The tag's text up to the name."""
+        return TAG_START + control_fields(self.umi, self.att)
+
+    def control(self):
+        """The control word: the word count, bit 15h and bits 18h to 1Fh."""
+        return self.scheme.words << 11 | self.umi << 10 | self.att
 
     def bank(self, control=None):
-        """The bank in hex; a control word other than the scheme's own may be given."""
+        """The bank in hex; a control word other than the tag's own may be given."""
         code = 0
         for field, value in zip(self.fields, self.values):
             code = code << field.bits | value
-        control = self.scheme.words << 11 if control is None else control
+        control = self.control() if control is None else control
         return f"{control:04X}{code:0{4 * self.scheme.words}X}"
-
-
-def text(name, parts):
-    return TAG_START + name + ":" + ".".join(parts)
 
 
 def smallest(field):
@@ -216,6 +238,16 @@ def samples(field):
 def tags():
     """Every scheme at every partition value, all parts in the middle."""
     return [Tag(scheme, partition, middle) for scheme in SCHEMES for partition in partitions(scheme)]
+
+
+def scheme_tags():
+    """Every scheme once, all parts in the middle."""
+    return [Tag(scheme, partitions(scheme)[-1] // 2, middle) for scheme in SCHEMES]
+
+
+def both(tag_text, bank):
+    """A text and a bank in hex, and the program's answer to each, which is the other."""
+    return [(tag_text, "B " + bank), (bank, "T " + tag_text)]
 
 
 def raw_line(bank):

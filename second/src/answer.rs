@@ -4,8 +4,9 @@
 pub type Answer = Result<usize, Refusal>;
 
 /// The number of the first rule that was broken, and the place: in a text the offset of the first
-/// character of the part that was refused, in a bank the address of its first bit. A bank that is too
-/// short has its number of bytes for a place; a number without one has 0.
+/// character of the part or control field that was refused, or where the colon behind control fields is
+/// missing; in a bank the address of the part's first bit. A bank that is too short has its number of
+/// bytes for a place; a number without one has 0.
 #[derive(Clone, Copy, Debug, PartialEq, Eq)]
 pub struct Refusal {
     pub number: u8,

@@ -1,9 +1,11 @@
-//! Bank to text: each part of the scheme takes its bits and gives its characters.
+//! Bank to text: the control fields, then each part of the scheme, take their bits and give their
+//! characters.
 
 use crate::answer::{Answer, Refusal};
 use crate::bank::Bank;
 use crate::bits::BitReader;
 use crate::characters;
+use crate::control::ControlFields;
 use crate::line::Line;
 use crate::tables::*;
 
@@ -15,7 +17,7 @@ pub fn bank_to_text(bank: &[u8], out: &mut [u8]) -> Answer {
     let bank = Bank::new(bank)?;
     let scheme = scheme_of(&bank)?;
     let mut room = [0; TEXT_ROOM];
-    let length = Decoder::new(scheme, bank.code, &mut room).text(scheme)?;
+    let length = Decoder::new(scheme, &bank, &mut room).text(scheme)?;
     out[..length].copy_from_slice(&room[..length]);
     Ok(length)
 }
@@ -25,8 +27,8 @@ fn scheme_of(bank: &Bank) -> Result<&'static Scheme, Refusal> {
     if bank.toggle() {
         return Err(Refusal::new(refusal::TOGGLE, address::TOGGLE));
     }
-    if bank.control & control::OTHERS != 0 {
-        return Err(Refusal::new(refusal::CONTROL, address::OTHERS));
+    if bank.control & control::XPC != 0 {
+        return Err(Refusal::new(refusal::XPC, address::XPC));
     }
     let no_scheme = Refusal::new(refusal::HEADER, address::CODE);
     let scheme = Scheme::by_header(bank.code[0]).ok_or(no_scheme)?;
@@ -43,11 +45,12 @@ struct Decoder<'a> {
 }
 
 impl<'a> Decoder<'a> {
-    fn new(scheme: &Scheme, code: &[u8], room: &'a mut [u8]) -> Self {
+    fn new(scheme: &Scheme, bank: &Bank, room: &'a mut [u8]) -> Self {
         let mut line = Line::new(room);
         line.push(TAG_START);
+        ControlFields::of(bank.control).write(&mut line);
         line.push(scheme.name);
-        Decoder { bits: BitReader::new(code), line, row: &ROWS[0] }
+        Decoder { bits: BitReader::new(bank.code), line, row: &ROWS[0] }
     }
 
     fn text(mut self, scheme: &Scheme) -> Answer {

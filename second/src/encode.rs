@@ -1,8 +1,10 @@
-//! Text to bank: each part of the scheme takes its characters and gives its bits.
+//! Text to bank: the control fields, then each part of the scheme, take their characters and give their
+//! bits.
 
 use crate::answer::{Answer, Refusal};
 use crate::bits::BitWriter;
 use crate::characters;
+use crate::control::ControlFields;
 use crate::numerals;
 use crate::tables::*;
 
@@ -11,13 +13,17 @@ pub fn text_to_bank(text: &[u8], out: &mut [u8]) -> Answer {
     if out.len() < BANK_ROOM {
         return Err(Refusal::without_place(refusal::OUTPUT));
     }
-    let named = text.strip_prefix(TAG_START).ok_or(Refusal::new(refusal::START, 0))?;
-    let no_name = Refusal::new(refusal::NAME, TAG_START.len());
+    // the refusal of what the text ends with
+    let refused = |number: u8, rest: &[u8]| Refusal::new(number, text.len() - rest.len());
+    let rest = text.strip_prefix(TAG_START).ok_or(refused(refusal::START, text))?;
+    let (fields, named) =
+        ControlFields::read(rest).map_err(|wrong| refused(refusal::CONTROL_FIELDS, wrong))?;
+    let no_name = refused(refusal::NAME, named);
     let (name, parts) = split(named, b':').ok_or(no_name)?;
     let scheme = Scheme::by_name(name).ok_or(no_name)?;
-    let mut encoder = Encoder::new(scheme, parts);
+    let mut encoder = Encoder::new(scheme, fields, parts);
     if let Err(number) = encoder.parts(scheme) {
-        return Err(Refusal::new(number, text.len() - encoder.text.len()));
+        return Err(refused(number, encoder.text));
     }
     let length = WORD_BYTES * (1 + scheme.words);
     out[..length].copy_from_slice(&encoder.bits.finish()[..length]);
@@ -32,9 +38,10 @@ struct Encoder<'a> {
 }
 
 impl<'a> Encoder<'a> {
-    fn new(scheme: &Scheme, text: &'a [u8]) -> Self {
+    fn new(scheme: &Scheme, fields: ControlFields, text: &'a [u8]) -> Self {
         let mut bits = BitWriter::new();
-        bits.push((scheme.words as u64) << control::WORD_COUNT_SHIFT, WORD_BITS);
+        let control = (scheme.words as u16) << control::WORD_COUNT_SHIFT | fields.bits();
+        bits.push(control.into(), WORD_BITS);
         bits.push(scheme.header.into(), HEADER_BITS);
         Encoder { text, bits, row: &ROWS[0] }
     }

@@ -1,14 +1,16 @@
-//! A second codec for the tags of docs/01-scope.md and of requests C-11 and C-12 in
+//! A second codec for the tags of docs/01-scope.md and of requests C-11 to C-13 in
 //! docs/02-change-requests.md, written from those papers alone, to compare with.
 //!
 //! A scheme is a list of parts, and each part turns its characters into bits and its bits into
-//! characters; the lists and all numbers stand in `tables`. No call allocates, and none touches its
-//! output before it knows its answer.
+//! characters; the lists and all numbers stand in `tables`. Control fields, which may stand before a
+//! scheme's name, are bits of the word before its code. No call allocates, and none touches its output
+//! before it knows its answer.
 
 mod answer;
 mod bank;
 mod bits;
 mod characters;
+mod control;
 mod decode;
 mod encode;
 mod line;

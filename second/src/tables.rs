@@ -1,14 +1,15 @@
-//! Every number of document 01 and of document 02's requests C-11 and C-12, typed from their tables
-//! and sentences; `schemes` has those of the schemes and of the partition tables.
+//! Every number of document 01 and of document 02's requests C-11 to C-13, typed from their tables and
+//! sentences; `schemes` has those of the schemes and of the partition tables.
 
 mod schemes;
 
 pub use schemes::*;
 
-/// Numbers of refusals, "Numbers given, and when".
+/// Numbers of refusals, "Numbers given, and when", in the order in which they are looked for.
 pub mod refusal {
     pub const OUTPUT: u8 = 1;
     pub const START: u8 = 2;
+    pub const CONTROL_FIELDS: u8 = 20;
     pub const NAME: u8 = 3;
     pub const FILTER: u8 = 4;
     pub const FIRST: u8 = 5;
@@ -18,7 +19,7 @@ pub mod refusal {
     pub const LENGTH: u8 = 9;
     pub const NO_WORDS: u8 = 10;
     pub const TOGGLE: u8 = 11;
-    pub const CONTROL: u8 = 12;
+    pub const XPC: u8 = 12;
     pub const HEADER: u8 = 13;
     pub const WORDS: u8 = 14;
     pub const NOT_ZERO: u8 = 15;
@@ -43,6 +44,14 @@ pub const LINE_START: &[u8] = b"urn:";
 pub const TAG_START: &[u8] = b"urn:epc:tag:";
 pub const RAW_START: &[u8] = b"urn:epc:raw:";
 
+/// Control fields before a scheme's name: the user memory bit, the attribute bits in hex, and what stands
+/// behind the last field.
+pub const FIELD_START: &[u8] = b"[";
+pub const UMI_FIELD: &[u8] = b"[umi=1]";
+pub const ATT_START: &[u8] = b"[att=x";
+pub const ATT_END: &[u8] = b"]";
+pub const FIELDS_END: &[u8] = b":";
+
 pub const WORD_BITS: usize = 16;
 pub const WORD_BYTES: usize = WORD_BITS / 8;
 pub const HEADER_BITS: usize = 8;
@@ -53,15 +62,18 @@ pub const CHARACTER_BITS: usize = 7;
 /// The control word, addresses 10h to 1Fh: its lowest bit is 1Fh.
 pub mod control {
     pub const WORD_COUNT_SHIFT: usize = 11;
+    pub const UMI: u16 = 0x0400;
+    pub const XPC: u16 = 0x0200;
     pub const TOGGLE: u16 = 0x0100;
-    pub const OTHERS: u16 = 0x06FF;
+    pub const ATT: u16 = 0x00FF;
+    /// Where the toggle is 1, what are attribute bits otherwise.
     pub const AFI: u16 = 0x00FF;
 }
 
 /// Bank addresses, which count from the word count's first bit; code bit 0 is `CODE`.
 pub mod address {
     pub const WORD_COUNT: usize = 0x10;
-    pub const OTHERS: usize = 0x15;
+    pub const XPC: usize = 0x16;
     pub const TOGGLE: usize = 0x17;
     pub const CODE: usize = 0x20;
 }

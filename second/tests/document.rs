@@ -1,5 +1,5 @@
 //! The typed tables, written as document 01 writes them, are the rows that stand there; what document
-//! 02 says of the schemes that it adds, and of the places of refusals, stands in it.
+//! 02 says of the schemes that it adds, of the places of refusals, and of control fields, stands in it.
 
 use second::tables::*;
 
@@ -108,15 +108,31 @@ fn rows_of_document_02() {
     }
 }
 
-/// The addresses that are places, where document 02 names them.
+/// The addresses that are places, where document 02 names them; 12's is C-13's.
 #[test]
 fn places_of_document_02() {
-    let request = request("C-12");
-    let (count, toggle, others) = (address::WORD_COUNT, address::TOGGLE, address::OTHERS);
+    let (count, toggle, xpc) = (address::WORD_COUNT, address::TOGGLE, address::XPC);
+    let before = request("C-12");
+    assert!(before.contains(&format!("for 10 to 12 it is {count:X}h, {toggle:X}h and 15h")));
     assert!(
-        request.contains(&format!("for 10 to 12 it is {count:X}h, {toggle:X}h and {others:X}h"))
+        before.contains(&format!("for 13 it is {:X}h and for 14 it is {count:X}h", address::CODE))
     );
-    assert!(
-        request.contains(&format!("for 13 it is {:X}h and for 14 it is {count:X}h", address::CODE))
-    );
+    let bit = format!("{} is now given for bit {xpc:X}h only, with place {xpc:X}h", refusal::XPC);
+    assert!(request("C-13").contains(&bit));
+}
+
+/// The bits of the control word from an address to another.
+fn bits(first: usize, last: usize) -> u16 {
+    (first..=last).map(|address| 1 << (0x1F - address)).sum()
+}
+
+#[test]
+fn control_fields_of_document_02() {
+    let request = request("C-13");
+    assert!(request.contains("sets bit 15h and bits 18h to 1Fh from the two fields"));
+    assert_eq!((control::UMI, control::ATT), (bits(0x15, 0x15), bits(0x18, 0x1F)));
+    assert_eq!(control::XPC, bits(address::XPC, address::XPC));
+    assert_eq!(control::TOGGLE, bits(address::TOGGLE, address::TOGGLE));
+    let (number, start, name) = (refusal::CONTROL_FIELDS, refusal::START, refusal::NAME);
+    assert!(request.contains(&format!("new {number}, between {start} and {name}")));
 }

@@ -1,4 +1,5 @@
-//! Document 01's known tags, rows 1 to 14, and its example of the program.
+//! Document 01's known tags, rows 1 to 14, row 13 as request C-13 of document 02 has it; and document 01's
+//! example of the program.
 
 mod common;
 
@@ -70,7 +71,8 @@ fn rows_11_and_12_partition_and_prefix() {
 #[test]
 fn rows_13_and_14_first_words() {
     let first = |bank: &str, word: &str| decode(&bytes(&bank.replacen(&bank[..4], word, 1)));
-    assert_eq!(first(ROW_1_BANK, "3001"), Err(12));
+    let text = "urn:epc:tag:[att=x01]:sgtin-96:3.0614141.812345.6789";
+    assert_pair(text, &bytes("3001 3074257BF7194E4000001A85"));
     assert_eq!(first(ROW_1_BANK, "3100"), Err(11));
     assert_eq!(first(ROW_1_BANK, "0000"), Err(10));
     assert_eq!(first(ROW_6_BANK, "3000"), Err(14));
@@ -92,6 +94,9 @@ fn the_longest_texts() {
     let escapes = "%2F".repeat(20);
     let text = format!("urn:epc:tag:sgtin-198:0.0614141.812345.{escapes}");
     assert_eq!(text.len(), 99);
+    assert_eq!(decode(&encode(&text).unwrap()).as_ref(), Ok(&text));
+    let text = text.replace("tag:", "tag:[umi=1][att=xFF]:");
+    assert_eq!(text.len(), 116);
     assert_eq!(decode(&encode(&text).unwrap()), Ok(text));
     let mut bank = vec![0xFF; 64];
     bank[1] = 0x5C;

@@ -24,11 +24,14 @@ fn known_tags() {
     assert_eq!(text("sgtin-96:8.0614141.812345.6789"), (4, 21));
     assert_eq!(bank("3000 307C257BF7194E4000001A85"), (16, 0x2B));
     assert_eq!(bank("3000 3003FFFFFFFFFC0000000000"), (17, 0x2E));
-    assert_eq!(bank("3001 3074257BF7194E4000001A85"), (12, 0x15));
+    assert_eq!(bank("3200 3074257BF7194E4000001A85"), (12, 0x16));
     assert_eq!(bank("3100 3074257BF7194E4000001A85"), (11, 0x17));
     assert_eq!(bank("0000 3074257BF7194E4000001A85"), (10, 0x10));
     assert_eq!(bank("3000 3614257BF7194E70AEC4 00000000000000000000000000000000"), (14, 0x10));
 }
+
+/// Control fields that a text may have; tests/control_fields.rs has the places of those that are wrong.
+const FIELDS: [&str; 4] = ["", "[umi=1]:", "[att=x01]:", "[umi=1][att=xFF]:"];
 
 #[test]
 fn start_and_name() {
@@ -36,7 +39,8 @@ fn start_and_name() {
         assert_eq!(refused_text(text.as_bytes()), (2, 0), "{text}");
     }
     for rest in ["", ":", "gid-96", "gid-95:1.2.3", "gid-96.1.2.3"] {
-        assert_eq!(text(rest), (3, 12), "{rest}");
+        let places = FIELDS.map(|fields| text(&format!("{fields}{rest}")));
+        assert_eq!(places, [(3, 12), (3, 20), (3, 22), (3, 29)], "{rest}");
     }
 }
 
@@ -61,9 +65,13 @@ fn parts(scheme: &Scheme, row: &Row) -> Vec<String> {
 }
 
 /// Every part in turn with another byte, missing at the text's end, without what follows it, and for 8 too
-/// large: the place is the length of what stands before it.
+/// large: the place is the length of what stands before it, with any control fields.
 fn assert_places(scheme: &Scheme, parts: &[String]) {
-    let mut before = format!("urn:epc:tag:{}:", scheme.name.escape_ascii());
+    FIELDS.iter().for_each(|fields| assert_places_behind(fields, scheme, parts));
+}
+
+fn assert_places_behind(fields: &str, scheme: &Scheme, parts: &[String]) {
+    let mut before = format!("urn:epc:tag:{fields}{}:", scheme.name.escape_ascii());
     for (i, &number) in numbers(scheme).iter().enumerate() {
         let refused = |rest: &str| refused_text(format!("{before}{rest}").as_bytes());
         let place = before.len();
@@ -144,10 +152,12 @@ fn control_bits_and_headers() {
         let good = zeros(scheme, 0);
         assert_eq!(refused_bank(&ones(good.clone(), 0x15, 0x20)), (11, 0x17));
         for address in (0x15..0x20).filter(|&address| address != 0x17) {
-            assert_eq!(refused_bank(&ones(good.clone(), address, address + 1)), (12, 0x15));
+            let bank = ones(ones(good.clone(), 0x16, 0x17), address, address + 1);
+            assert_eq!(refused_bank(&bank), (12, 0x16));
         }
         let other = [&[8 * scheme.words as u8 + 8][..], &good[1..], &[0; 2]].concat();
         assert_eq!(refused_bank(&other), (14, 0x10));
+        assert_eq!(refused_bank(&ones(other, 0x18, 0x20)), (14, 0x10));
     }
     assert_eq!(bank("0800 0000"), (13, 0x20));
     assert_eq!(bank("3000 FF74257BF7194E4000001A85"), (13, 0x20));

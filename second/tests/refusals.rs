@@ -65,7 +65,6 @@ fn refusal_3_another_name() {
     assert_refused(3, &["cpi-var:3.9521141.98765.12345", "cpi-97:3.9521141.98765.12345"]);
     assert_refused(3, &["giai-202:3.9521141.5678", "itip-110:3.9521141.012345.01.02.981"]);
     assert_refused(3, &["usdod-96:3.CAGEY.5678", "adi-var:3.35962.PQ7VZ4.M37GXB92"]);
-    assert_refused(3, &["[att=x01]:sgtin-96:3.0614141.812345.6789"]);
 }
 
 #[test]
@@ -194,8 +193,8 @@ fn refusals_11_and_12_for_every_control_word() {
         let expected = match control {
             0x0000..=0x07FF => Some(10),
             _ if control & 0x0100 != 0 => Some(11),
-            _ if control & 0x06FF != 0 => Some(12),
-            0x3000 => None,
+            _ if control & 0x0200 != 0 => Some(12),
+            0x3000..=0x37FF => None,
             _ => Some(14),
         };
         assert_eq!(decode(&bank).err(), expected, "{control:04X}");

@@ -1,5 +1,6 @@
-//! Tags made from the tables at every partition value: their bank as a row of binary digits, and each
-//! from the other. Changed texts and banks: what is taken comes back as it was.
+//! Tags made from the tables at every partition value, with control fields and without: their bank as a
+//! row of binary digits, and each from the other. Changed texts and banks: what is taken comes back as it
+//! was.
 
 mod common;
 
@@ -9,9 +10,10 @@ use second::tables::*;
 const CHARACTERS: &[u8] =
     b"!\"%&'()*+,-./0123456789:;<=>?ABCDEFGHIJKLMNOPQRSTUVWXYZ_abcdefghijklmnopqrstuvwxyz";
 
-/// A tag as it grows: its text, and its code as a row of binary digits.
+/// A tag as it grows: its text, the bits of its control fields, and its code as a row of binary digits.
 struct Tag {
     text: String,
+    control: u64,
     code: String,
     separator: char,
 }
@@ -24,7 +26,7 @@ impl Tag {
     }
 
     fn bank(&self, scheme: &Scheme) -> Vec<u8> {
-        let all = format!("{:05b}{:011b}{}", scheme.words, 0, self.code);
+        let all = format!("{:05b}{:011b}{}", scheme.words, self.control, self.code);
         let all = format!("{all:0<width$}", width = 16 + 16 * scheme.words);
         (0..all.len() / 8).map(|i| u8::from_str_radix(&all[8 * i..8 * i + 8], 2).unwrap()).collect()
     }
@@ -33,9 +35,10 @@ impl Tag {
 /// A tag of a scheme; `pick` gives a value below a limit for each part.
 fn tag(scheme: &Scheme, partition: usize, pick: &mut impl FnMut(u64) -> u64) -> Tag {
     let row = &ROWS[partition];
-    let name = std::str::from_utf8(scheme.name).unwrap();
-    let code = format!("{:08b}", scheme.header);
-    let mut tag = Tag { text: format!("urn:epc:tag:{name}"), code, separator: ':' };
+    let (umi, att) = (pick(2), pick(2) * pick(256));
+    let text = format!("urn:epc:tag:{}{}", fields(umi, att), scheme.name.escape_ascii());
+    let (control, code) = (umi << 10 | att, format!("{:08b}", scheme.header));
+    let mut tag = Tag { text, control, code, separator: ':' };
     for part in scheme.parts {
         match *part {
             Part::Filter => filter(&mut tag, pick),
@@ -51,6 +54,16 @@ fn tag(scheme: &Scheme, partition: usize, pick: &mut impl FnMut(u64) -> u64) -> 
         }
     }
     tag
+}
+
+/// The control fields of a text, each only if it is not zero.
+fn fields(umi: u64, att: u64) -> String {
+    match (umi, att) {
+        (0, 0) => String::new(),
+        (0, att) => format!("[att=x{att:02X}]:"),
+        (_, 0) => "[umi=1]:".to_string(),
+        (_, att) => format!("[umi=1][att=x{att:02X}]:"),
+    }
 }
 
 fn filter(tag: &mut Tag, pick: &mut impl FnMut(u64) -> u64) {
@@ -125,7 +138,7 @@ fn random_tags() {
 #[test]
 fn changed_texts() {
     let mut random = Random(2);
-    let (mut taken, mut refused) = (0, [0; 9]);
+    let (mut taken, mut refused) = (0, [0; 21]);
     for round in 0..60_000 {
         let scheme = &SCHEMES[round % SCHEMES.len()];
         let partition = random.below(7) as usize;
@@ -134,8 +147,8 @@ fn changed_texts() {
         let place = random.below(text.len() as u64) as usize;
         match random.below(4) {
             0 => text[place] = random.below(256) as u8,
-            1 => text[place] = b"0123456789.:%ABCF "[random.below(18) as usize],
-            2 => text.insert(place, b"0123456789.:%ABCF "[random.below(18) as usize]),
+            1 => text[place] = b"0123456789.:%ABCF []="[random.below(21) as usize],
+            2 => text.insert(place, b"0123456789.:%ABCF []="[random.below(21) as usize]),
             _ => drop(text.remove(place)),
         }
         match encode_bytes(&text) {
@@ -146,7 +159,8 @@ fn changed_texts() {
             Err(number) => refused[number as usize] += 1,
         }
     }
-    assert!(taken > 1000 && refused[2..].iter().all(|&count| count > 50), "{taken} {refused:?}");
+    let seen = [&refused[2..=8], &refused[20..]].concat();
+    assert!(taken > 1000 && seen.iter().all(|&count| count > 50), "{taken} {refused:?}");
 }
 
 #[test]
@@ -173,7 +187,8 @@ fn random_codes_under_a_good_header() {
     let (mut taken, mut refused) = (0, [0; 20]);
     for round in 0..60_000 {
         let scheme = &SCHEMES[round % SCHEMES.len()];
-        let mut bank = bytes(&format!("{:04X}{:02X}", scheme.words << 11, scheme.header));
+        let control = scheme.words << 11 | (random.any() & 0x04FF) as usize;
+        let mut bank = bytes(&format!("{control:04X}{:02X}", scheme.header));
         bank.resize_with(2 + 2 * scheme.words, || random.any() as u8);
         if random.below(8) > 0 {
             clear_from(&mut bank, 16 + scheme.zero_from());

@@ -18,7 +18,7 @@ use Rattle.rules.specs.Schemes.{rowAt, words, prefixBits, prefixDigits}
 use Rattle.rules.specs.Grammar.{laid, Tag}
 use Rattle.rules.specs.Coding.{wordCount, bankSize}
 use Rattle.rules.specs.Conditions.{partitionIn, rowIn}
-use Rattle.rules.specs.BankNumbers.{fieldsIn, stringIn, codeIn, tagOfBank}
+use Rattle.rules.specs.BankNumbers.{fieldsIn, stringIn, codeIn, controlFields, tagOfBank}
 use Rattle.rules.proofs.Codes as Codes
 use Rattle.rules.proofs.BankReads.{Clean, clean-of, code-seen}
 use Rattle.alphabet.specs.Strings.{countOf}
@@ -52,13 +52,16 @@ module _ (b : List ℕ) (s : Scheme) (p : Parts) (c : Coded b s p) where
   pub few-words : words s < 32
   few-words = Codes.sizes s .few-words
 
+  pub two : 2 ≤ length b
+  two = clean .two
+
   pub bytes : bankSize (words s) ≤ length b
   bytes = rw (clean .count) long
 
   pub lies : (at width : ℕ) → width ≤ 64 → at + width ≤ 16 * words s → LiesInCode at width (length b)
   lies at width n h = record { narrow = n; first = omega arith; small = omega (arith, few-words); inside = omega (arith, bytes) }
 
-  parts-tag : tagOfBank b ≡ (fieldsIn 0x28 (laid p) (drop 8 (codeIn b)) >>= λ ps. taken (record { scheme = s; parts = ps }))
+  parts-tag : tagOfBank b ≡ (fieldsIn 0x28 (laid p) (drop 8 (codeIn b)) >>= λ ps. taken (record { scheme = s; control = controlFields b; parts = ps }))
   parts-tag = coded-tag b s p c ∙ rw (c .parts)
 
 -- A partition table.
@@ -87,7 +90,7 @@ module _ (b : List ℕ) (s : Scheme) (body : Body) (c : Coded b s (F body)) wher
         narrow = rw (c .parts) at (parts-narrow s)
 
         -- the digits of the reference, and what is read once the string is
-        read-on : (ds : List ℕ) × (value 10 ds ≡ codeField b (start b) (shapeOf body (rowIn b) .cell .bits)) × (tagOfBank b ≡ (answered b body ds (stringOf b body) >>= λ ps. taken (record { scheme = s; parts = ps })))
+        read-on : (ds : List ℕ) × (value 10 ds ≡ codeField b (start b) (shapeOf body (rowIn b) .cell .bits)) × (tagOfBank b ≡ (answered b body ds (stringOf b body) >>= λ ps. taken (record { scheme = s; control = controlFields b; parts = ps })))
         read-on =
             let (ds, v, e) = small-reference b (long b s (F body) c) row small body (room (partitionIn b) row) narrow below in
             (ds, v, parts-tag b s (F body) c ∙ rw e)
@@ -109,10 +112,10 @@ module _ (b : List ℕ) (s : Scheme) (body : Body) (c : Coded b s (F body)) wher
 
 -- The three integers of gid-96.
 pub three-integers : (b : List ℕ) (s : Scheme) (x y z : ℕ) → Coded b s (Integers x y z)
-    → readingOf (tagOfBank b) ≡ record { number = 0; place = 0; tag = record { scheme = s; filter = 0; prefix = codeField b 8 x; digits = 0; reference = codeField b (8 + x) y; serial = codeField b (8 + x + y) z; characters = replicate 20 0; count = 0 } }
+    → readingOf (tagOfBank b) ≡ record { number = 0; place = 0; tag = record { scheme = s; control = controlFields b; filter = 0; prefix = codeField b 8 x; digits = 0; reference = codeField b (8 + x) y; serial = codeField b (8 + x + y) z; characters = replicate 20 0; count = 0 } }
 three-integers b s x y z c =
     let p = Integers x y z in
     let w : Inside (wordCount b) p = rw (clean b s p c .count) at (rw (c .parts) at (sizes s .inside)) in
     let l = long b s p c in
     ap readingOf (parts-tag b s p c)
-    ∙ rw (record-by s p _ (c .parts), drop-drop x 8 (codeIn b), drop-drop y (8 + x) (codeIn b), ← code-seen b l 8 x (omega arith), ← code-seen b l (8 + x) y (omega arith), ← code-seen b l (8 + x + y) z (omega arith), value-shortest 10 (lit< tt), value-shortest 10 (lit< tt), value-shortest 10 (lit< tt))
+    ∙ rw (record-by s (controlFields b) p _ (c .parts), drop-drop x 8 (codeIn b), drop-drop y (8 + x) (codeIn b), ← code-seen b l 8 x (omega arith), ← code-seen b l (8 + x) y (omega arith), ← code-seen b l (8 + x + y) z (omega arith), value-shortest 10 (lit< tt), value-shortest 10 (lit< tt), value-shortest 10 (lit< tt))

@@ -10,9 +10,11 @@ use lib.ListN.{length, drop, replicate, length-append, length-replicate, replica
 use lib.Pow.{pow-pos}
 use Rattle.numeral.specs.Numeral.{numeral, gather}
 use Rattle.numeral.proofs.Values.{length-numeral}
+use Rattle.rules.specs.declared.ControlFields.{ControlFields}
 use Rattle.rules.specs.Schemes.{about, words}
+use Rattle.rules.specs.ControlFields.{ControlFits}
 use Rattle.rules.specs.Grammar.{layout, Tag}
-use Rattle.rules.specs.Coding.{binary, coded, bitsOf, bankSize, bankOf}
+use Rattle.rules.specs.Coding.{binary, coded, controlBits, bitsOf, bankSize, bankOf}
 use Rattle.rules.proofs.Codes.{sizes, content, content-length}
 use Rattle.rules.proofs.Banks.{bank-length}
 use Rattle.bits.specs.declared.Stream.{Stream}
@@ -32,13 +34,20 @@ unfolding numeral
 zeros-are zero = refl
 zeros-are (suc n) = ap (_++ (0 ∷ [])) (zeros-are n) ∙ replicate-append-replicate n 1 0 ∙ ap (λ k. replicate k 0) (add-one n)
 
--- The control word: a word count of five bits leaves the eleven others zero.
-pub control-is : (W : ℕ) → numeral 2 16 (W * 2048) ≡ binary 5 W ++ replicate 11 0
-control-is W = sym (rw add-zero at (join 5 11 W 0 (lit< tt))) ∙ ap (binary 5 W ++_) (zeros-are 11)
+-- The control word: five bits, one, two zeros and eight.
+pub control-is : (W : ℕ) (c : ControlFields) → ControlFits c → numeral 2 16 (W * 2048 + c .umi * 1024 + c .att) ≡ binary 5 W ++ controlBits c
+control-is W c fits =
+    let a = c .att in
+    let u = c .umi in
+    let eight : replicate 2 0 ++ binary 8 a ≡ numeral 2 10 (0 * 256 + a) = ap (_++ binary 8 a) (sym (zeros-are 2)) ∙ join 2 8 0 a (omega (arith, fits .1)) in
+    let one : binary 1 u ++ numeral 2 10 (0 * 256 + a) ≡ numeral 2 11 (u * 1024 + (0 * 256 + a)) = join 1 10 u (0 * 256 + a) (omega (arith, fits .1)) in
+    let word = join 5 11 W (u * 1024 + (0 * 256 + a)) (omega (arith, fits)) in
+    let sum : W * 2048 + u * 1024 + a ≡ W * 2048 + (u * 1024 + (0 * 256 + a)) = omega arith in
+    ap (numeral 2 16) sum ∙ sym (ap (binary 5 W ++_) (ap (binary 1 u ++_) eight ∙ one) ∙ word)
 
 -- behind the start there is room for all parts
-pub start-leaves : (o : Outline) {l after : List ℕ} {s : Stream} → 64 ≤ length l → Streamed l 0 (startBits o) after s → Room s 224 (length after)
-start-leaves o h w =
+pub start-leaves : (o : Outline) (c : ControlFields) {l after : List ℕ} {s : Stream} → 64 ≤ length l → Streamed l 0 (startBits o c) after s → Room s 224 (length after)
+start-leaves o c h w =
     let e = simp (length-append, length-numeral, length-replicate) at (counted (w .written)) in
     record { sound = w .sound; room = omega (arith, e, kept (w .written)) }
 
@@ -50,6 +59,13 @@ module _ {r : Record} {τ : Tag} (h : RecordIs r τ) {o : Outline} (e : o ≡ ou
   outline : o ≡ outlineOf (τ .scheme)
   unfolding recordOf
   outline = e ∙ ap (λ (q : Record). outlineOf (q .scheme)) (h .same)
+
+  control-kept : r .control ≡ τ .control
+  unfolding recordOf
+  control-kept = ap (λ (q : Record). q .control) (h .same)
+
+  pub fields-fit : ControlFits (r .control)
+  fields-fit = rw control-kept (h .fits .control)
 
   words-are : o .words ≡ words (τ .scheme)
   words-are = ap (λ o. o .words) outline
@@ -69,24 +85,24 @@ module _ {r : Record} {τ : Tag} (h : RecordIs r τ) {o : Outline} (e : o ≡ ou
 
   -- the bits before the fill
   bits : List ℕ
-  bits = startBits o ++ body
+  bits = startBits o (r .control) ++ body
 
   bits-long : length bits ≡ 24 + content (τ .scheme)
   unfolding body bits
-  bits-long = simp (length-append, length-numeral, length-replicate, content-length (τ .scheme) (h .fits))
+  bits-long = simp (length-append, length-numeral, length-replicate, content-length (τ .scheme) (h .fits .parts))
 
   bits-inside : 24 + content (τ .scheme) ≤ 8 * bankSize (o .words)
   bits-inside = omega (arith, words-are, sizes (τ .scheme) .whole, sizes (τ .scheme) .inside)
 
   -- and with it, whose length is what is left of the last word
-  bits-are : (k : ℕ) → length bits + k ≡ 8 * bankSize (o .words) → bits ++ numeral 2 k 0 ≡ bitsOf (τ .scheme) (τ .parts)
+  bits-are : (k : ℕ) → length bits + k ≡ 8 * bankSize (o .words) → bits ++ numeral 2 k 0 ≡ bitsOf (τ .scheme) (τ .control) (τ .parts)
   unfolding body bits
   bits-are k f =
       let start = binary 8 (about (τ .scheme) .header) in
-      let n : k ≡ 16 * words (τ .scheme) - length (start ++ body) = rw (length-append start, length-numeral, content-length (τ .scheme) (h .fits)) (omega (arith, words-are, bits-long)) in
-      rw (zeros-are k, n, outline) (simp append-assoc)
+      let n : k ≡ 16 * words (τ .scheme) - length (start ++ body) = rw (length-append start, length-numeral, content-length (τ .scheme) (h .fits .parts)) (omega (arith, words-are, bits-long)) in
+      rw (zeros-are k, n, outline, ← control-kept) (simp append-assoc)
 
-  module _ {l after middle : List ℕ} {s t : Stream} (long : 64 ≤ length l) (v : Streamed l 0 (startBits o) middle s) (w : Streamed middle (s .at) (waiting s ++ packed (o .parts) r) after t) where
+  module _ {l after middle : List ℕ} {s t : Stream} (long : 64 ≤ length l) (v : Streamed l 0 (startBits o (r .control)) middle s) (w : Streamed middle (s .at) (waiting s ++ packed (o .parts) r) after t) where
     so-far : Streamed l 0 bits after t
     unfolding bits
     so-far = continued v body (rw body-is at w)

@@ -10,6 +10,7 @@ use lib.Seq.{take-at, take-take, take-append-add}
 use Rattle.numeral.specs.Numeral.{value, Digits, spread}
 use Rattle.numeral.proofs.Values.{value-lt, numeral-value, digits-append, digits-take, digits-zeros}
 use Rattle.rules.specs.declared.Scheme.{Scheme}
+use Rattle.rules.specs.declared.ControlFields.{ControlFields}
 use Rattle.rules.specs.declared.Table.{Table}
 use Rattle.rules.specs.declared.Last.{Last}
 use Rattle.rules.specs.declared.Last.the-variants.{Integer, String, Numeric}
@@ -118,9 +119,10 @@ numeric-kept n k ds h l room =
     (omega arith, value-lt 10 ds d, record { least = l .0; most = l .1; small = rw (numeral-value 10 ds d) (numeric-fits n k ds d few room) })
 
 -- The record of parts, and what is to be shown of it.
-abbrev recordWith : Scheme → Parts → List (List ℕ) → Record
-recordWith s p ps = record {
+abbrev recordWith : Scheme → ControlFields → Parts → List (List ℕ) → Record
+recordWith s c p ps = record {
   scheme = s;
+  control = c;
   filter = filterOf p ps;
   prefix = prefixOf p ps;
   digits = digitsOf p ps;
@@ -130,8 +132,8 @@ recordWith s p ps = record {
   count = countOf p ps;
 }
 
-abbrev Packs : Scheme → Parts → List (List ℕ) → Type 0
-Packs s p ps = Keeps p (recordWith s p ps) × (packed p (recordWith s p ps) ≡ coded (laid p) ps)
+abbrev Packs : Scheme → ControlFields → Parts → List (List ℕ) → Type 0
+Packs s c p ps = Keeps p (recordWith s c p ps) × (packed p (recordWith s c p ps) ≡ coded (laid p) ps)
 
 number : (n : ℕ) (ds : List ℕ) → n ≤ 57 → Fit (integer n) ds → Number n (value 10 ds)
 number n ds l h = record { narrow = l; small = ltb→lt (value 10 ds) (2 ^ n) (h .size) }
@@ -143,28 +145,28 @@ last-packs t (Integer n) w y r es ec en l p h = rw es (number n y l h, refl)
 last-packs t (String n) w y r es ec en l p h = rw ec ((string-groups n y h l, l .2), string-is n y h l)
 last-packs t (Numeric n k) w y r es ec en l p h = rw (es, en) (numeric-kept n k y h l (numeric-room t n k w p), ap (λ ds. binary n (value 10 (1 ∷ ds))) (numeral-value 10 y (all-digits y (h .symbols))))
 
-packs : (s : Scheme) (p : Parts) (w : ℕ) (ps : List (List ℕ)) → Narrow p → PartSizes p w → Fits (laid p) ps → Packs s p ps
-packs s (F (Then t l)) w ps n z h =
+packs : (s : Scheme) (fields : ControlFields) (p : Parts) (w : ℕ) (ps : List (List ℕ)) → Narrow p → PartSizes p w → Fits (laid p) ps → Packs s fields p ps
+packs s fields (F (Then t l)) w ps n z h =
     let a = partitioned (Then t l) h in
     let (x, y, e, i, j) = reference-and-last t l (length (a .prefix)) (a .rest-fits) in
-    let (k, bits) = last-packs t l w y (recordWith s (F (Then t l)) (a .filter ∷ a .prefix ∷ x ∷ y ∷ [])) refl refl refl n z j in
-    subst⁻¹ (Packs s (F (Then t l))) (a .parts ∙ ap (λ z. a .filter ∷ a .prefix ∷ z) e)
+    let (k, bits) = last-packs t l w y (recordWith s fields (F (Then t l)) (a .filter ∷ a .prefix ∷ x ∷ y ∷ [])) refl refl refl n z j in
+    subst⁻¹ (Packs s fields (F (Then t l))) (a .parts ∙ ap (λ z. a .filter ∷ a .prefix ∷ z) e)
     ((company-of a refl refl refl, (reference-of a refl i refl, k)), rw (bits, reference-bits t _ _ x) (simp append-assoc))
-packs s (F (Zeros t n)) w ps l z h =
+packs s fields (F (Zeros t n)) w ps l z h =
     let a = partitioned (Zeros t n) h in
     let (x, e, i) = reference-alone t n (length (a .prefix)) (a .rest-fits) in
-    subst⁻¹ (Packs s (F (Zeros t n))) (a .parts ∙ ap (λ z. a .filter ∷ a .prefix ∷ z) e)
+    subst⁻¹ (Packs s fields (F (Zeros t n))) (a .parts ∙ ap (λ z. a .filter ∷ a .prefix ∷ z) e)
     ((company-of a refl refl refl, reference-of a refl i refl), rw (reference-bits t _ _ x) (simp append-assoc))
-packs s (F E) w ps l z h =
+packs s fields (F E) w ps l z h =
     let a = partitioned E h in
     let (x, e, i) = asset-alone (length (a .prefix)) (a .rest-fits) in
-    subst⁻¹ (Packs s (F E)) (a .parts ∙ ap (λ z. a .filter ∷ a .prefix ∷ z) e)
+    subst⁻¹ (Packs s fields (F E)) (a .parts ∙ ap (λ z. a .filter ∷ a .prefix ∷ z) e)
     ((company-of a refl refl refl, asset-of a refl i refl), simp append-assoc)
-packs s (Integers a b c) w ps l u h =
+packs s fields (Integers a b c) w ps l u h =
     let (x, y, z, e, i, j, k) = general a b c h in
-    subst⁻¹ (Packs s (Integers a b c)) e ((number a x (l .0) i, number b y (l .1) j, number c z (l .2) k), refl)
+    subst⁻¹ (Packs s fields (Integers a b c)) e ((number a x (l .0) i, number b y (l .1) j, number c z (l .2) k), refl)
 
 pub tag-packs : (r : Record) (τ : Tag) → RecordIs r τ
     → Keeps (about (τ .scheme) .parts) r × (packed (about (τ .scheme) .parts) r ≡ coded (layout (τ .scheme)) (τ .parts))
 unfolding recordOf
-tag-packs r τ h = let s = τ .scheme in rw (h .same) (packs s (about s .parts) (content s) (τ .parts) (parts-narrow s) (sizes s .parts) (h .fits))
+tag-packs r τ h = let s = τ .scheme in rw (h .same) (packs s (τ .control) (about s .parts) (content s) (τ .parts) (parts-narrow s) (sizes s .parts) (h .fits .parts))

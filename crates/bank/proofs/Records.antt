@@ -15,6 +15,7 @@ use Rattle.numeral.proofs.Shortest.{value-shortest}
 use Rattle.numeral.proofs.Spreads.{length-gather}
 use Rattle.rules.specs.Answers.{Answer, refused, taken, _>>=_, given}
 use Rattle.rules.specs.declared.Scheme.{Scheme}
+use Rattle.rules.specs.declared.ControlFields.{ControlFields}
 use Rattle.rules.specs.declared.Last.the-variants.{Integer, String, Numeric}
 use Rattle.rules.specs.declared.Body.{Body}
 use Rattle.rules.specs.declared.Body.the-variants.{Then, Zeros, E}
@@ -22,7 +23,7 @@ use Rattle.rules.specs.declared.Parts.{Parts}
 use Rattle.rules.specs.declared.Parts.the-variants.{F}
 use Rattle.rules.specs.Schemes.{about, cell, prefixBits, prefixDigits}
 use Rattle.rules.specs.Conditions.{rowIn}
-use Rattle.rules.specs.BankNumbers.{stringIn, numericIn}
+use Rattle.rules.specs.BankNumbers.{stringIn, numericIn, controlFields}
 use Rattle.alphabet.specs.Strings.{countOf}
 use Rattle.alphabet.proofs.Kept.{first-characters}
 use Rattle.rules.proofs.Groups.{StringIs, string-decides}
@@ -39,10 +40,10 @@ use Rattle.tens.proofs.Numerals.{none-read}
 use Rattle.bank.proofs.Parts.{start, partsOf, answered, lastAddress, stringOf, no-bits}
 
 -- the record of parts p
-pub record-by : (s : Scheme) (p : Parts) (ps : List (List ℕ)) → about s .parts ≡ p
-    → recordOf (record { scheme = s; parts = ps }) ≡ record { scheme = s; filter = filterOf p ps; prefix = prefixOf p ps; digits = digitsOf p ps; reference = referenceOf p ps; serial = serialOf p ps; characters = padded (charactersOf p ps); count = countIn p ps }
+pub record-by : (s : Scheme) (c : ControlFields) (p : Parts) (ps : List (List ℕ)) → about s .parts ≡ p
+    → recordOf (record { scheme = s; control = c; parts = ps }) ≡ record { scheme = s; control = c; filter = filterOf p ps; prefix = prefixOf p ps; digits = digitsOf p ps; reference = referenceOf p ps; serial = serialOf p ps; characters = padded (charactersOf p ps); count = countIn p ps }
 unfolding recordOf
-record-by s p ps e = rw e
+record-by s c p ps e = rw e
 
 -- the groups of a string that is taken are its characters and zeros
 padded-groups : (gs cs : List ℕ) (k : ℕ) → length gs ≡ k → k ≤ 20 → stringIn gs ≡ some cs → padded cs ≡ gs ++ replicate (20 - k) 0
@@ -86,6 +87,7 @@ module _ (b : List ℕ) (s : Scheme) (small : codeField b 14 (prefixBits (rowIn 
   made v z cs n =
       record {
         scheme = s;
+        control = controlFields b;
         filter = codeField b 8 3;
         prefix = codeField b 14 (prefixBits (rowIn b));
         digits = prefixDigits (rowIn b);
@@ -97,12 +99,12 @@ module _ (b : List ℕ) (s : Scheme) (small : codeField b 14 (prefixBits (rowIn 
 
   -- the filter and the prefix are the same in each
   front : (body : Body) (ds cs : List ℕ) → about s .parts ≡ F body
-      → recordOf (record { scheme = s; parts = partsOf b body ds cs }) ≡ made (referenceOf (F body) (partsOf b body ds cs)) (serialOf (F body) (partsOf b body ds cs)) (padded (charactersOf (F body) (partsOf b body ds cs))) (countIn (F body) (partsOf b body ds cs))
-  front body ds cs e = rw (record-by s (F body) (partsOf b body ds cs) e, value-shortest 10 (lit< tt), value-numeral-lt 10 _ _ small, length-numeral)
+      → recordOf (record { scheme = s; control = controlFields b; parts = partsOf b body ds cs }) ≡ made (referenceOf (F body) (partsOf b body ds cs)) (serialOf (F body) (partsOf b body ds cs)) (padded (charactersOf (F body) (partsOf b body ds cs))) (countIn (F body) (partsOf b body ds cs))
+  front body ds cs e = rw (record-by s (controlFields b) (F body) (partsOf b body ds cs) e, value-shortest 10 (lit< tt), value-numeral-lt 10 _ _ small, length-numeral)
 
   -- what is read, where the string is a
   abbrev pub readWith : Body → List ℕ → Answer (List ℕ) → Reading
-  readWith body ds a = readingOf (answered b body ds a >>= λ ps. taken (record { scheme = s; parts = ps }))
+  readWith body ds a = readingOf (answered b body ds a >>= λ ps. taken (record { scheme = s; control = controlFields b; parts = ps }))
 
   -- no numeric string: the string, if any, has n characters
   pub record-made : (body : Body) → about s .parts ≡ F body → Narrow (F body) → shapeOf body (rowIn b) .most ≡ 0 → shapeOf body (rowIn b) .groups ≤ 20

@@ -10,11 +10,12 @@ use lib.Seq.{take-at}
 use Rattle.numeral.specs.Numeral.{shortest}
 use Rattle.rules.specs.Answers.{refused}
 use Rattle.rules.specs.declared.Scheme.{Scheme}
+use Rattle.rules.specs.declared.ControlFields.{ControlFields}
 use Rattle.rules.specs.declared.Body.{Body}
 use Rattle.rules.specs.declared.Parts.the-variants.{F}
 use Rattle.rules.specs.Schemes.{words}
 use Rattle.rules.specs.Conditions.{partitionIn, rowIn}
-use Rattle.rules.specs.BankNumbers.{stringIn, numericIn, tagOfBank}
+use Rattle.rules.specs.BankNumbers.{stringIn, numericIn, controlFields, tagOfBank}
 use Rattle.alphabet.specs.Strings.{countOf}
 use Rattle.scheme.specs.Records.{readingOf}
 use Rattle.fields.specs.BitReaders.{LiesInCode, codeField}
@@ -62,11 +63,11 @@ module _ (b : List ℕ) (s : Scheme) (body : Body) (k : Company) (h : Shape) (v 
       pub wrong : n ≡ 0 → ¬ (h .groups ≡ 0) → tagOfBank b ≡ refused 19 (0x20 + at)
       wrong z o = let g = r .begun in wrong-string b s body (g .coded) (g .listed) (g .small) below (rw (← r .shape) o) (sym z ∙ count) ∙ ap (refused 19) place
 
-      pub right : h .most ≡ 0 → (z : ℕ) → z ≡ codeField b at (h .serial) → (¬ (n ≡ 0)) ⊎ (h .groups ≡ 0)
-          → record { number = 0; place = 0; tag = record { scheme = s; filter = k .filter; prefix = k .prefix; digits = k .digits; reference = v; serial = z; characters = gs; count = n } } ≡ readingOf (tagOfBank b)
-      right m z ez o =
+      pub right : (f : ControlFields) → f ≡ controlFields b → h .most ≡ 0 → (z : ℕ) → z ≡ codeField b at (h .serial) → (¬ (n ≡ 0)) ⊎ (h .groups ≡ 0)
+          → record { number = 0; place = 0; tag = record { scheme = s; control = f; filter = k .filter; prefix = k .prefix; digits = k .digits; reference = v; serial = z; characters = gs; count = n } } ≡ readingOf (tagOfBank b)
+      right f ef m z ez o =
           let g = r .begun in
-          rw (ez, r .reference, eg, here, r .shape, g .company) (sym (right-string b s body (g .coded) (g .listed) (g .small) below (rw (← r .shape) m) n count (rw (← r .shape) o)))
+          rw (ef, ez, r .reference, eg, here, r .shape, g .company) (sym (right-string b s body (g .coded) (g .listed) (g .small) below (rw (← r .shape) m) n count (rw (← r .shape) o)))
 
     -- d are the digits of a numeric string
     module _ (some : ¬ (h .most ≡ 0)) (d : Digits) (ed : d ≡ numericOf (numericIn (h .most) (shortest 10 (codeField b at (h .serial))))) where
@@ -76,8 +77,8 @@ module _ (b : List ℕ) (s : Scheme) (body : Body) (k : Company) (h : Shape) (v 
       pub no-digits : d .count ≡ 0 → tagOfBank b ≡ refused 19 (0x20 + at)
       no-digits z = let g = r .begun in wrong-numeric b s body (g .coded) (g .listed) (g .small) below (rw (← r .shape) some) (rw (← numeric-is) z) ∙ ap (refused 19) place
 
-      pub some-digits : ¬ (d .count ≡ 0)
-          → record { number = 0; place = 0; tag = record { scheme = s; filter = k .filter; prefix = k .prefix; digits = k .digits; reference = v; serial = d .value; characters = replicate 20 0; count = d .count } } ≡ readingOf (tagOfBank b)
-      some-digits o =
+      pub some-digits : (f : ControlFields) → f ≡ controlFields b → ¬ (d .count ≡ 0)
+          → record { number = 0; place = 0; tag = record { scheme = s; control = f; filter = k .filter; prefix = k .prefix; digits = k .digits; reference = v; serial = d .value; characters = replicate 20 0; count = d .count } } ≡ readingOf (tagOfBank b)
+      some-digits f ef o =
           let g = r .begun in
-          rw (numeric-is, r .reference, r .shape, g .company) (sym (right-numeric b s body (g .coded) (g .listed) (g .small) below (rw (← r .shape) some) (rw (← numeric-is) o)))
+          rw (ef, numeric-is, r .reference, r .shape, g .company) (sym (right-numeric b s body (g .coded) (g .listed) (g .small) below (rw (← r .shape) some) (rw (← numeric-is) o)))

@@ -14,7 +14,7 @@ use Rattle.rules.specs.Schemes.{schemes, words}
 use Rattle.rules.specs.Grammar.{layout, Tag}
 use Rattle.rules.specs.Coding.{binary, at, wordCount, bankSize}
 use Rattle.rules.specs.Conditions.{zerosFrom}
-use Rattle.rules.specs.BankNumbers.{allZero, headed, codeIn, fieldsIn, controlIn, tagOfBank}
+use Rattle.rules.specs.BankNumbers.{allZero, headed, codeIn, fieldsIn, controlIn, controlFields, tagOfBank}
 use Rattle.rules.proofs.Codes.{sizes}
 use Rattle.rules.proofs.BankReads.{Clean, clean-of, code-seen}
 use Rattle.rules.specs.declared.Parts.{Parts}
@@ -29,7 +29,7 @@ coded b o = do
   demand (eqb (wordCount b) (words s)) 14 0x10
   demand (allZero (drop (zerosFrom s) (codeIn b))) 15 (0x20 + (zerosFrom s + length (upto 1 (drop (zerosFrom s) (codeIn b)))))
   ps ← fieldsIn 0x28 (layout s) (drop 8 (codeIn b))
-  taken (record { scheme = s; parts = ps })
+  taken (record { scheme = s; control = controlFields b; parts = ps })
 
 module _ (b : List ℕ) (W : ℕ) (e : controlIn b ≡ taken W) where
   clean : Clean b W
@@ -51,7 +51,7 @@ module _ (b : List ℕ) (W : ℕ) (e : controlIn b ≡ taken W) where
 
     module _ (count : W ≡ words s) where
       scheme-tag : (t : ℕ) → codeField b (zerosFrom s) (16 * words s - zerosFrom s) ≡ t
-          → tagOfBank b ≡ (demand (eqb t 0) 15 (0x20 + (zerosFrom s + length (upto 1 (drop (zerosFrom s) (codeIn b))))) >> (fieldsIn 0x28 (layout s) (drop 8 (codeIn b)) >>= λ ps. taken (record { scheme = s; parts = ps })))
+          → tagOfBank b ≡ (demand (eqb t 0) 15 (0x20 + (zerosFrom s + length (upto 1 (drop (zerosFrom s) (codeIn b))))) >> (fieldsIn 0x28 (layout s) (drop 8 (codeIn b)) >>= λ ps. taken (record { scheme = s; control = controlFields b; parts = ps })))
       scheme-tag t f =
           let same : wordCount b ≡ words s = sym (clean .count) ∙ count in
           let inside : zerosFrom s ≤ 16 * wordCount b = omega (arith, sizes s .inside) in
@@ -68,5 +68,5 @@ module _ (b : List ℕ) (W : ℕ) (e : controlIn b ≡ taken W) where
       one-after w = scheme-tag _ refl ∙ rw (ne-eqb (codeField b (zerosFrom s) (16 * words s - zerosFrom s)) 0 w, fill-bits)
 
 -- The parts, once the scheme is known.
-pub coded-tag : (b : List ℕ) (s : Scheme) (p : Parts) → Coded b s p → tagOfBank b ≡ (fieldsIn 0x28 (layout s) (drop 8 (codeIn b)) >>= λ ps. taken (record { scheme = s; parts = ps }))
+pub coded-tag : (b : List ℕ) (s : Scheme) (p : Parts) → Coded b s p → tagOfBank b ≡ (fieldsIn 0x28 (layout s) (drop 8 (codeIn b)) >>= λ ps. taken (record { scheme = s; control = controlFields b; parts = ps }))
 coded-tag b s p c = scheme-tag b (words s) (c .clean) s (c .header) refl 0 (c .zeros)

@@ -1,8 +1,9 @@
 -- The bits of a record's fields, the limits that the fields keep, and the room that a stream has for them.
 use Prim.Native.Nat.{ℕ, _+_, _/_, _^_, _≤_, _<_}
 use mathlib.Core.List.{List, _++_}
-use lib.ListN.{take, replicate}
+use lib.ListN.{take}
 use Rattle.numeral.specs.Numeral.{Digits, spread}
+use Rattle.rules.specs.declared.ControlFields.{ControlFields}
 use Rattle.rules.specs.declared.Table.{Table}
 use Rattle.rules.specs.declared.Last.{Last}
 use Rattle.rules.specs.declared.Last.the-variants.{Integer, String, Numeric}
@@ -11,7 +12,7 @@ use Rattle.rules.specs.declared.Body.the-variants.{Then, Zeros, E}
 use Rattle.rules.specs.declared.Parts.{Parts}
 use Rattle.rules.specs.declared.Parts.the-variants.{F, Integers}
 use Rattle.rules.specs.Schemes.{cell, assetBits, partition, prefixBits, rowOf}
-use Rattle.rules.specs.Coding.{binary}
+use Rattle.rules.specs.Coding.{binary, controlBits}
 use Rattle.bits.specs.declared.Stream.{Stream}
 use Rattle.bits.specs.Streams.{Sound}
 use Rattle.tens.specs.Numerics.{oneBefore}
@@ -23,9 +24,9 @@ pub record Room (s : Stream) (n bytes : ℕ) : Type 0 where
   pub sound : Sound s
   pub room : s .at + (s .count + n) / 8 ≤ bytes
 
--- the control word, with the word count and eleven zeros, and the header
-abbrev pub startBits : Outline → List ℕ
-startBits o = binary 5 (o .words) ++ (replicate 11 0 ++ binary 8 (o .header))
+-- the control word, with the word count and the control bits, and the header
+abbrev pub startBits : Outline → ControlFields → List ℕ
+startBits o c = binary 5 (o .words) ++ (controlBits c ++ binary 8 (o .header))
 
 -- the filter is one digit 0 to 7, and the company prefix has 6 to 12 digits
 pub record Company (r : Record) : Type 0 where

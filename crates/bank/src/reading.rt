@@ -127,6 +127,7 @@ fn general(bank: &[u8], at: CodeBit, s: Scheme, a: usize, b: usize, c: usize) ->
         place: 0,
         tag: Record {
             scheme: s,
+            control: control::fields(bank),
             filter: 0,
             prefix: first.value,
             digits: 0,
@@ -168,6 +169,7 @@ fn numeric_behind(
         place: 0,
         tag: Record {
             scheme: s,
+            control: control::fields(bank),
             filter: company.filter,
             prefix: company.prefix,
             digits: company.digits,
@@ -205,6 +207,7 @@ fn behind_prefix(bank: &[u8], at: CodeBit, s: Scheme, body: Body, company: Compa
         place: 0,
         tag: Record {
             scheme: s,
+            control: control::fields(bank),
             filter: company.filter,
             prefix: company.prefix,
             digits: company.digits,

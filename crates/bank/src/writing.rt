@@ -1,9 +1,10 @@
-// The bank of a tag, written from its record (document 01, "The bank"): one stream of bits, in order. Each `put_` function takes the
+// The bank of a tag, written from its record (document 01, "The bank"; document 02, C-13): one stream of bits, in order. Each `put_` function takes the
 // stream, adds its bits, and returns the stream behind them.
 use super::eights;
 use bits::Stream;
 use fields::control::size;
 use rules::Body;
+use rules::ControlFields;
 use rules::Last;
 use rules::MOST_CHARACTERS;
 use rules::Parts;
@@ -19,6 +20,7 @@ ghost use lib.ListN.{length, take};
 ghost use Rattle.numeral.specs.Numeral.{Digits, spread};
 ghost use Rattle.bits.specs.Streams.{waiting, Streamed};
 ghost use Rattle.rules.specs.Calls.{bankRoom};
+ghost use Rattle.rules.specs.ControlFields.{ControlFits};
 ghost use Rattle.rules.specs.Coding.{binary, bankOf};
 ghost use Rattle.scheme.specs.Records.{HasTag, Writes};
 ghost use Rattle.bank.specs.Writing.{Room, startBits, Company, companyBits, Reference, referenceBits, Wide, Asset, assetNumber, KeepsLast, lastBits, Keeps, packed};
@@ -128,18 +130,19 @@ fn put_parts(out: &mut [u8], s: Stream, parts: Parts, tag: Record) -> Stream
     }
 }
 
-// The control word, with the word count in its upper five bits, and the header.
-fn put_start(out: &mut [u8], outline: Outline) -> Stream
-    requires { ⌜ (bankRoom ≤ length (now out)) × (outline .words < 32) ⌝ }
-    ensures { λ r. ⌜ Streamed (now (out .entry)) 0 (startBits outline) (now (out .exit)) r ⌝ }
+// The control word, with the word count in its upper five bits, umi in the next and att in the lower eight; and the header.
+fn put_start(out: &mut [u8], outline: Outline, control: ControlFields) -> Stream
+    requires { ⌜ (bankRoom ≤ length (now out)) × (outline .words < 32) × ControlFits control ⌝ }
+    ensures { λ r. ⌜ Streamed (now (out .entry)) 0 (startBits outline control) (now (out .exit)) r ⌝ }
 {
     let start = Stream {
         at: 0,
         bits: 0,
         count: 0,
     };
-    let control = bits::push(out, start, 16, (outline.words * 2048) as u64);
-    bits::push(out, control, 8, outline.header as u64)
+    let word = outline.words * 2048 + control.umi as usize * 1024 + control.att as usize;
+    let behind = bits::push(out, start, 16, word as u64);
+    bits::push(out, behind, 8, outline.header as u64)
 }
 
 // Writes the bank of the tag from the output's start on, and returns its length.
@@ -150,7 +153,8 @@ pub fn write(tag: Record, out: &mut [u8]) -> usize
 {
     let s = tag.scheme;
     let outline = about(s);
-    let start = put_start(out, outline);
+    let control = tag.control;
+    let start = put_start(out, outline, control);
     let parts = outline.parts;
     let end = put_parts(out, start, parts, tag);
     // zeros to the end of the last word: the fill, and table B's 24

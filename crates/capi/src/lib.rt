@@ -48,7 +48,7 @@ fn in_numbers(answer: Answer) -> Reply
     }
 }
 
-// Text to bank: numbers 1 to 8.
+// Text to bank: numbers 1 to 8, and 20.
 #[no_mangle]
 pub extern "C" fn tagcodec_text_to_bank(text: &[u8], out: &mut [u8]) -> Reply
     ensures { λ r. ⌜ replied r (now (out .exit)) ≡ textToBank (now (text .entry)) (now (out .entry)) ⌝ }

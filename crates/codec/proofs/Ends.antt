@@ -8,7 +8,7 @@ use borrow.Author.Tests.{le-leb, lt-leb}
 use Rattle.rules.specs.Answers.{Answer, refused, taken, _>>=_}
 use Rattle.rules.specs.Conditions.{Rule}
 use Rattle.rules.proofs.Answers.{Reads}
-use Rattle.rules.specs.Grammar.{Tag, Fits, layout}
+use Rattle.rules.specs.Grammar.{Tag, TagFits}
 use Rattle.rules.specs.Calls.{call, lent}
 use Rattle.scheme.specs.declared.record.Reading.{Reading}
 use Rattle.scheme.specs.Records.{RecordIs, Writes, readingOf}
@@ -52,7 +52,7 @@ module _ (room : ℕ) (form : Tag → List ℕ) (out : List ℕ) (l : room ≤ l
   read-written τ e i n after h = let (x, y) = h τ i in writes room out l (form τ) (a >>= λ τ. taken (form τ)) (ap (_>>= λ τ. taken (form τ)) e) n after x y
 
 -- number 0: the record is that of the tag that is taken
-pub read-taken : (rs : List Rule) (Right : Tag → Type 0) → ((τ : Tag) → Right τ → Fits (layout (τ .scheme)) (τ .parts))
+pub read-taken : (rs : List Rule) (Right : Tag → Type 0) → ((τ : Tag) → Right τ → TagFits τ)
     → (a : Answer Tag) → Reads rs Right a → (r : Reading) → r ≡ readingOf a → r .number ≡ 0 → (τ : Tag) × (a ≡ taken τ) × RecordIs (r .tag) τ
 read-taken rs Right fits a h r is z = go a refl is
   where

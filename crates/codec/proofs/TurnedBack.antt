@@ -7,7 +7,7 @@ use lib.ListN.{length, take, drop, length-append}
 use lib.Seq.{take-at}
 use Rattle.numeral.specs.Numeral.{Digits}
 use Rattle.rules.specs.Answers.{Answer, refused, taken, _>>=_}
-use Rattle.rules.specs.Grammar.{Tag, Fits, layout, textOf}
+use Rattle.rules.specs.Grammar.{Tag, TagFits, textOf}
 use Rattle.rules.specs.Coding.{TagBank, bankOf, within}
 use Rattle.rules.specs.Calls.{call, wrote, lent, bankRoom, textRoom, textAnswer, bankAnswer, textToBank, bankToText}
 use Rattle.rules.proofs.Again.{wrote-is}
@@ -79,7 +79,7 @@ module _ (b text out : List ℕ) (d : Digits 256 b) where
     unfolding bankToText
     not-shown = then-none (textAnswer b text) text after (shown-full b text d) (λ t. bankAnswer t out) (lent bankRoom out (taken (within b))) bank-again out n
 
-bank-of : (w : List ℕ) (τ : Tag) → Fits (layout (τ .scheme)) (τ .parts) → w ≡ bankOf τ → TagBank w τ
+bank-of : (w : List ℕ) (τ : Tag) → TagFits τ → w ≡ bankOf τ → TagBank w τ
 bank-of w τ f e = rw e (Banks.own-bank τ f)
 
 -- text to bank, then bank to text

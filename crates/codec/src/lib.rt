@@ -20,7 +20,7 @@ pub enum Answer {
     Refused(u8, usize),
 }
 
-// Text to bank: numbers 1 to 8. The bank is written from the output's start on.
+// Text to bank: numbers 1 to 8, and 20. The bank is written from the output's start on.
 pub fn text_to_bank(text: &[u8], out: &mut [u8]) -> Answer
     ensures { λ r. ⌜ answered r (now (out .exit)) ≡ textToBank (now (text .entry)) (now (out .entry)) ⌝ }
 {

@@ -4,6 +4,7 @@ use mathlib.Core.Path.{_≡_, refl, sym, ap, _∙_}
 use mathlib.Core.List.{List, [], _∷_, _++_, append-assoc, append-nil}
 use mathlib.Core.Logic.{⊎-elim}
 use native.Mathlib.Omega.{arith}
+use native.Mathlib.Nat.{add-zero}
 use lib.Dec.{lit<}
 use lib.ListN.{length, drop, set, length-append, drop-of-length-le}
 use lib.Seq.{take-all}
@@ -11,7 +12,7 @@ use Rattle.numeral.specs.Numeral.{numeral, size, shortest, splice}
 use Rattle.numeral.proofs.Arithmetic.{lt-or-ge}
 use Rattle.numeral.proofs.Values.{length-numeral}
 use Rattle.numeral.proofs.Shortest.{length-shortest}
-use Rattle.numeral.proofs.Splices.{splice-one, splice-splice, splice-front}
+use Rattle.numeral.proofs.Splices.{splice-nil, splice-one, splice-splice, splice-front}
 use Rattle.rules.specs.Bytes.{digitsText}
 use Rattle.digits.specs.Pieces.{Puts}
 use Rattle.digits.proofs.Texts.{length-text}
@@ -34,6 +35,10 @@ join {x} {y} {s} {t} {u} {at} {p} {n} a b = record {
   end = rw length-append (omega (arith, a .end, b .end));
   bytes = b .bytes ∙ rw (a .bytes, a .end) (splice-then s at x y);
 }
+
+-- nothing
+pub nothing-put : (s : List ℕ) (at : ℕ) → Puts [] at s at s
+nothing-put s at = record { end = sym (add-zero at); bytes = sym (splice-nil s at) }
 
 pub from-start : {x s t : List ℕ} {n : ℕ} → Puts x 0 s n t → (n ≡ length x) × (t ≡ x ++ drop (length x) s)
 from-start {x} {s} h = (omega (arith, h .end), h .bytes ∙ splice-front s x)

@@ -1,5 +1,6 @@
 -- Laws of pieces of texts.
 pub mod Texts
+pub mod Hexes
 pub mod Runs
 pub mod Parts
 pub mod Copies

@@ -10,7 +10,7 @@ use lib.Seq.{drop-at}
 use borrow.Author.Tests.{eq-eqb, ne-eqb}
 use Rattle.rules.specs.TextNumbers.{after}
 use Rattle.rules.proofs.Answers.{Gives}
-use Rattle.rules.proofs.TextReads.{after-is}
+use Rattle.rules.proofs.Starts.{after-is}
 use Rattle.digits.specs.Starts.{begun}
 use Rattle.digits.proofs.Runs.{drop-next}
 

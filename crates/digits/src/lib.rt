@@ -1,4 +1,5 @@
-// Pieces of texts. Written: bytes, numbers in decimal, bytes in hexadecimal. Read: how a text begins, and runs of decimal digits.
+// Pieces of texts. Written: bytes, numbers in decimal, bytes in hexadecimal. Read: how a text begins, runs of decimal digits, hexadecimal
+// digits.
 ghost use mathlib.Core.Bool.{cond};
 ghost use mathlib.Core.Path.{_≡_};
 ghost use Prim.Native.Nat.{_+_, _*_, _/_, _%_, _≤_, _<_};
@@ -6,7 +7,7 @@ ghost use lib.ListN.{length, drop};
 ghost use Rattle.numeral.specs.Numeral.{value, numeral, size, shortest, splice};
 ghost use Rattle.rules.specs.Bytes.{all, digitsText, hexDigit, hexText};
 ghost use Rattle.rules.specs.TextNumbers.{after, isDigit};
-ghost use Rattle.digits.specs.Digits.{leadingDigits};
+ghost use Rattle.digits.specs.Digits.{leadingDigits, hexValue};
 ghost use Rattle.digits.specs.Pieces.{Puts};
 ghost use Rattle.digits.specs.Starts.{begun};
 
@@ -105,6 +106,22 @@ pub fn is_digit(c: u8) -> bool
     ensures { λ r. ⌜ r ≡ isDigit c ⌝ }
 {
     b'0' <= c && c <= b'9'
+}
+
+// The value of an upper-case hexadecimal digit; 16 for any other byte.
+pub fn hex_value(c: u8) -> u8
+    ensures { λ r. ⌜ r ≡ hexValue c ⌝ }
+{
+    if is_digit(c) {
+        return c - b'0';
+    }
+    if c < b'A' {
+        return 16;
+    }
+    if b'F' < c {
+        return 16;
+    }
+    c - b'A' + 10
 }
 
 // A run of digits: the index after it, and its value.

@@ -46,7 +46,7 @@ module _ (b : List ℕ) where
       pub words-are : ¬ (W ≡ 0) → wordsIn b ≡ taken W
       words-are n = rw (le-leb 2 (length b) two, ← count, le-leb (bankSize W) (length b) long, lt-ltb 0 W (omega arith))
 
--- Rules 11 and 12: the other bits, where w is what the first two rules say.
+-- Rules 11 and 12: a bit each, where w is what the first two rules say.
 module _ (b : List ℕ) (w : Control) (e : w ≡ controlOf (wordsIn b)) where
   pub same-refusal : ¬ (w .number ≡ 0) → w ≡ controlOf (controlIn b)
   same-refusal h =
@@ -65,14 +65,10 @@ module _ (b : List ℕ) (w : Control) (e : w ≡ controlOf (wordsIn b)) where
     toggled h = rw (words, ne-eqb (at b 0x17 1) 0 h)
 
     module _ (toggle : at b 0x17 1 ≡ 0) where
-      pub control-bits : ¬ (at b 0x15 2 ≡ 0) → controlIn b ≡ refused 12 0x15
-      control-bits h = rw (words, toggle, ne-eqb (at b 0x15 2) 0 h)
+      pub control-bit : ¬ (at b 0x16 1 ≡ 0) → controlIn b ≡ refused 12 0x16
+      control-bit h = rw (words, toggle, ne-eqb (at b 0x16 1) 0 h)
 
-      module _ (control : at b 0x15 2 ≡ 0) where
-        pub attribute-bits : ¬ (at b 0x18 8 ≡ 0) → controlIn b ≡ refused 12 0x15
-        attribute-bits h = rw (words, toggle, control, ne-eqb (at b 0x18 8) 0 h)
-
-        pub in-order : at b 0x18 8 ≡ 0 → w ≡ controlOf (controlIn b)
-        in-order h =
-            let same : controlIn b ≡ taken (w .words) = rw (words, toggle, control, h) in
-            e ∙ ap controlOf (words ∙ sym same)
+      pub in-order : at b 0x16 1 ≡ 0 → w ≡ controlOf (controlIn b)
+      in-order h =
+          let same : controlIn b ≡ taken (w .words) = rw (words, toggle, h) in
+          e ∙ ap controlOf (words ∙ sym same)

@@ -1,13 +1,15 @@
 // The control word, addresses 10h to 1Fh: the word count and the rules 9 to 12 (document 01, "The bank" and "Numbers given, and when"), with
-// their places (document 02, C-12).
+// their places (document 02, C-12), and the control fields (C-13).
 use super::bitreader::field_at;
+use rules::ControlFields;
 use scheme::counts::BankAddress;
 use scheme::refusal;
 ghost use mathlib.Core.Path.{_≡_};
-ghost use Prim.Native.Nat.{_<_};
+ghost use Prim.Native.Nat.{_≤_, _<_};
+ghost use lib.ListN.{length};
 ghost use Rattle.rules.specs.Answers.{refused as refusedWith};
 ghost use Rattle.rules.specs.Coding.{bankSize};
-ghost use Rattle.rules.specs.BankNumbers.{wordsIn, controlIn};
+ghost use Rattle.rules.specs.BankNumbers.{wordsIn, controlIn, controlFields};
 ghost use Rattle.fields.specs.Controls.{controlOf};
 
 // The word count W of a bank, and the number and the place of the first of the rules that refuses it. Both are 0 where none does; otherwise
@@ -28,10 +30,12 @@ fn refused(number: u8, place: usize) -> Control
     }
 }
 
-// The fields of the control word: where the word count, the bits 15h and 16h, the toggle, and the attribute bits or the AFI begin.
+// The fields of the control word: where the word count, the user memory bit, the XPC bit, the toggle, and the attribute bits or the AFI begin.
 pub const WORD_COUNT: BankAddress = BankAddress(0x10);
 
 const USER_MEMORY: BankAddress = BankAddress(0x15);
+
+const XPC: BankAddress = BankAddress(0x16);
 
 const TOGGLE: BankAddress = BankAddress(0x17);
 
@@ -66,7 +70,7 @@ pub fn words(bank: &[u8]) -> Control
     }
 }
 
-// Rules 9 to 12: the other eleven control bits are 0 too. 12's place is 15h, whichever bit it is.
+// Rules 9 to 12: the toggle and the XPC bit are 0 too.
 pub fn clean(bank: &[u8]) -> Control
     ensures { λ r. ⌜ r ≡ controlOf (controlIn (now (bank .entry))) ⌝ }
 {
@@ -77,11 +81,19 @@ pub fn clean(bank: &[u8]) -> Control
     if field_at(bank, TOGGLE, 1) != 0 {
         return refused(refusal::TOGGLE, TOGGLE.0);
     }
-    if field_at(bank, USER_MEMORY, 2) != 0 {
-        return refused(refusal::CONTROL_BITS, USER_MEMORY.0);
-    }
-    if field_at(bank, ATTRIBUTES, 8) != 0 {
-        return refused(refusal::CONTROL_BITS, USER_MEMORY.0);
+    if field_at(bank, XPC, 1) != 0 {
+        return refused(refusal::CONTROL_BITS, XPC.0);
     }
     control
+}
+
+// The control fields of a bank: the user memory bit, and the attribute bits.
+pub fn fields(bank: &[u8]) -> ControlFields
+    requires { ⌜ 2 ≤ length (now bank) ⌝ }
+    ensures { λ r. ⌜ r ≡ controlFields (now (bank .entry)) ⌝ }
+{
+    ControlFields {
+        umi: field_at(bank, USER_MEMORY, 1) as u8,
+        att: field_at(bank, ATTRIBUTES, 8) as u8,
+    }
 }

@@ -92,13 +92,13 @@ module _ (t out e : List ℕ) (n : ℕ) (l : bankRoom ≤ length out) where
 
 module _ (b out e : List ℕ) (n : ℕ) (l : textRoom ≤ length out) where
   pub text-written : answered (Written n) e ≡ bankToText b out
-      → (τ : Tag) × (tagOfBank b ≡ taken τ) × (n ≡ length (textOf τ)) × (n ≤ 99) × (e ≡ textOf τ ++ drop (length (textOf τ)) out)
+      → (τ : Tag) × (tagOfBank b ≡ taken τ) × (n ≡ length (textOf τ)) × (n ≤ 116) × (e ≡ textOf τ ++ drop (length (textOf τ)) out)
   unfolding bankToText
   text-written h =
       let (w, a, c, o) = was-written textRoom out (tagOfBank b >>= λ τ. taken (textOf τ)) n e (firm textOf some-text (bankRules b) (Shown b) (tagOfBank b) (bank-reads b)) l h in
       let (τ, i, f) = tag-taken textOf some-text (tagOfBank b) w a in
       let r = rw i at (bank-reads b) in
-      let k : length (textOf τ) ≤ 99 = text-length (textOf τ) τ (record { fits = r .1 .fits; text = refl }) in
+      let k : length (textOf τ) ≤ 116 = text-length (textOf τ) τ (record { fits = r .1 .fits; text = refl }) in
       (τ, i, c ∙ ap length (sym f), omega (arith, c, ap length f), o ∙ ap (λ x. x ++ drop (length x) out) (sym f))
 
   pub bank-refused : (p : ℕ) → answered (Refused n p) e ≡ bankToText b out → (tagOfBank b ≡ refused n p) × (e ≡ out)

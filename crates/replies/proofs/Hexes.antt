@@ -14,7 +14,8 @@ use Rattle.rules.specs.Calls.{bankRoom}
 use Rattle.rules.specs.TextNumbers.{isDigit}
 use Rattle.rules.proofs.Tests.{both, all-among, below-is}
 use Rattle.digits.proofs.Alls.{wrongOf}
-use Rattle.replies.specs.Hex.{isHex, isLetter, hexValue, bytesIn, mostDigits, isBank}
+use Rattle.digits.specs.Digits.{hexValue}
+use Rattle.replies.specs.Hex.{isHex, isLetter, bytesIn, mostDigits, isBank}
 
 -- Which bytes are letters, and which are digits: two tests over the 256 bytes.
 module _ (c : ℕ) (byte : c < 256) where

@@ -23,7 +23,7 @@ module _ (b l e : List ℕ) (k : ℕ) (long : replyRoom ≤ length l) where
   room : (p : ℕ) → p ≤ afterNumber → textRoom ≤ length (part l p)
   room p h = omega (arith, mid-len p (length l) l (omega arith))
 
-  pub text-shown : answered (Written k) e ≡ bankToText b (part l 2) → (k ≤ 99) × Wrote (ofBank b (tagOfBank b)) l (k + 2) (set (set (back l 2 e) 0 (code "T")) 1 space)
+  pub text-shown : answered (Written k) e ≡ bankToText b (part l 2) → (k ≤ 116) × Wrote (ofBank b (tagOfBank b)) l (k + 2) (set (set (back l 2 e) 0 (code "T")) 1 space)
   text-shown h =
       let (τ, a, c, u, o) = text-written b (part l 2) e k (room 2 (omega arith)) h in
       (u, rw a (record { end = omega arith; bytes = text-behind l (back l 2 e) (textOf τ) (code "T") (omega arith) (put-back l e 2 (textOf τ) (omega arith) o) }))

@@ -1,17 +1,19 @@
 -- How long a reply is: at most 150 bytes, and with its line feed at most four times the line with its own.
 use Prim.Native.Nat.{ℕ, _+_, _-_, _*_, _≤_, _<_}
 use mathlib.Core.Path.{_≡_, refl, ap}
-use mathlib.Core.Logic.{_⊎_, inl, inr}
-use mathlib.Core.List.{List, []}
+use mathlib.Core.Logic.{_⊎_, inl, inr, ⊎-elim}
+use mathlib.Core.List.{List, [], _++_}
 use mathlib.Core.Option.{none, some}
 use mathlib.Core.Bool.{Bool, true, false, cond}
 use native.Mathlib.Omega.{arith}
 use lib.Dec.{leb, eqb, lit<, lit≤}
 use lib.ListN.{length, drop, length-append, length-take, length-drop}
+use Rattle.numeral.proofs.Arithmetic.{lt-or-ge}
 use Rattle.numeral.proofs.Shortest.{size-le, size-small}
 use Rattle.rules.specs.Answers.{Answer, refused, taken}
 use Rattle.rules.specs.Bytes.{bytes}
 use Rattle.rules.specs.Conditions.{First, textRules, bankRules, rawRules}
+use Rattle.rules.specs.ControlFields.{controlText}
 use Rattle.rules.specs.Grammar.{Tag, TagText, textOf, start, label}
 use Rattle.rules.specs.Coding.{at, bankOf, wordCount, within}
 use Rattle.rules.specs.TextNumbers.{after, tagOfText}
@@ -22,7 +24,7 @@ use Rattle.rules.proofs.Answers.{Reads}
 use Rattle.rules.proofs.Banks.{Shown, bank-length}
 use Rattle.rules.proofs.BankReads.{bank-reads, at-lt}
 use Rattle.rules.proofs.TextReads.{tag-reads}
-use Rattle.rules.proofs.Lengths.{measured, text-length, raw-length}
+use Rattle.rules.proofs.Lengths.{measured, text-length, text-of-words, raw-length}
 use Rattle.digits.proofs.Texts.{length-hex}
 use Rattle.digits.specs.Starts.{begun}
 use Rattle.replies.specs.Hex.{isBank, bytesIn, bankIn}
@@ -41,11 +43,25 @@ number-short n m h = let d = decimal-long n in let e = size-small 10 (lit< tt) n
 -- To a text.
 text-long : (τ : Tag) → 14 ≤ length (textOf τ)
 unfolding textOf start
-text-long τ = rw (length-append (label (τ .scheme))) (omega (arith, measured (τ .scheme)))
+text-long τ = rw (length-append (controlText (τ .control)), length-append (label (τ .scheme))) (omega (arith, measured (τ .scheme) .least-name))
 
-text-number : (t : List ℕ) (n i : ℕ) → First (textRules t) n i → 0 < n → n ≤ 8
+text-number : (t : List ℕ) (n i : ℕ) → First (textRules t) n i → 0 < n → n ≤ 20
 unfolding textRules
-text-number t n i f p = first-between 2 8 (textRules t) n i (omega arith) p f .1
+text-number t n i f p = first-between 2 20 (textRules t) n i (omega arith) p f .1
+
+-- past the first rule a text has its start
+started : (t : List ℕ) → ¬ (¬ ((u : List ℕ) × (t ≡ start ++ u))) → 12 ≤ length t
+unfolding start
+started t h = ⊎-elim (λ (l : length t < 12). absurd (h λ (u, e). omega (arith, ap length e))) (λ (l : 12 ≤ length t). l) (lt-or-ge (length t) 12)
+
+text-refused : (t : List ℕ) (n i : ℕ) → 0 < n → First (textRules t) n i → Short (length t) (replyN n)
+unfolding textRules
+text-refused t n i p (inl (_, e, _)) = number-short n (length t) (omega arith)
+text-refused t n i p (inr (x, f)) =
+    let d = decimal-long n in
+    let k = size-le 10 (lit< tt) n 2 (lit< tt) (omega (arith, text-number t n i (inr (x, f)) p)) in
+    let l = started t x in
+    (omega arith, omega arith)
 
 text-short : (t : List ℕ) → Short (length t) (ofText (tagOfText t))
 text-short t = go (tagOfText t) (tag-reads t)
@@ -58,7 +74,7 @@ text-short t = go (tagOfText t) (tag-reads t)
         let u = text-long τ in
         let e = ap length (h .1 .text) in
         (omega arith, omega arith)
-    go (refused n i) h = number-short n (length t) (omega (arith, text-number t n i (h .0) (h .1)))
+    go (refused n i) h = text-refused t n i (h .1) (h .0)
 
 -- To a bank: its line has two digits a byte.
 afi-length : (t : Bool) (a : ℕ) → length (afiText t a) ≤ 4
@@ -106,7 +122,9 @@ module _ (b : List ℕ) where
     where
       go : (a : Answer Tag) → Reads (bankRules b) (Shown b) a → Short (2 * length b) (ofBank b a)
       go (taken τ) h =
-          let l = text-length (textOf τ) τ (record { fits = h .1 .fits; text = refl }) in
+          let r : TagText (textOf τ) τ = record { fits = h .1 .fits; text = refl } in
+          let l = text-length (textOf τ) τ r in
+          let w = text-of-words (textOf τ) τ r in
           let s = measured (τ .scheme) in
           let c = h .1 .count in
           let k = h .1 .long in

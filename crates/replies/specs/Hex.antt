@@ -5,7 +5,8 @@ use mathlib.Core.Option.{Option, none, some}
 use mathlib.Core.Bool.{Bool, _&&_, cond}
 use lib.Dec.{leb, eqb}
 use lib.ListN.{length}
-use Rattle.rules.specs.Bytes.{bytes, all, among, upto, hexDigits}
+use Rattle.rules.specs.Bytes.{bytes, all, among, hexDigits}
+use Rattle.digits.specs.Digits.{hexValue}
 
 -- an upper-case hex digit
 unfoldable pub isHex : ℕ → Bool
@@ -14,10 +15,6 @@ isHex c = among c hexDigits
 -- the letters among them
 abbrev pub isLetter : ℕ → Bool
 isLetter c = among c (bytes "ABCDEF")
-
--- a digit's value is how many stand before it
-unfoldable pub hexValue : ℕ → ℕ
-hexValue c = length (upto c hexDigits)
 
 -- two digits to a byte
 abbrev pub bytesIn : List ℕ → List ℕ

@@ -6,7 +6,8 @@ ghost use lib.Dec.{T};
 ghost use lib.ListN.{length};
 ghost use Rattle.numeral.specs.Numeral.{splice};
 ghost use Rattle.rules.specs.Bytes.{all};
-ghost use Rattle.replies.specs.Hex.{isHex, isLetter, hexValue, bytesIn, isBank};
+ghost use Rattle.digits.specs.Digits.{hexValue};
+ghost use Rattle.replies.specs.Hex.{isHex, isLetter, bytesIn, isBank};
 
 // A line has at most so many digits.
 const MOST_DIGITS: usize = 128;

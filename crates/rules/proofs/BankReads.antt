@@ -22,13 +22,13 @@ use Rattle.rules.specs.declared.Parts.{Parts}
 use Rattle.rules.specs.declared.Parts.the-variants.{F, Integers}
 use Rattle.rules.specs.Schemes.{schemes, about, words, zeroBits, prefixBits}
 use Rattle.rules.specs.Grammar.{layout, Fits}
-use Rattle.rules.specs.Coding.{binary, coded, at, wordCount, bankSize}
-use Rattle.rules.specs.BankNumbers.{allZero, headed, codeIn, fieldsIn, wordsIn, controlIn, tagOfBank}
+use Rattle.rules.specs.Coding.{binary, coded, controlBits, at, wordCount, bankSize}
+use Rattle.rules.specs.BankNumbers.{allZero, headed, codeIn, fieldsIn, wordsIn, controlIn, controlFields, tagOfBank}
 use Rattle.rules.specs.Raw.{rawText, rawOfBank}
 use Rattle.rules.specs.Conditions.{Rule, rule, OfBank, rowIn, zerosFrom, MustBeZero, OneAfter, FirstOne, NoRow, LargePrefix, LargeReference, WrongLast, LastAt, rawRules, bankRules}
 use Rattle.rules.proofs.Tests.{both, apart, all-at}
 use Rattle.rules.proofs.Answers.{Gives, Decides, decided, Reads, settled-demand, settled-at, settled-given, settled-as, step, check, reads-map, reads-bind, done, same, alike, reads-covers}
-use Rattle.rules.proofs.ControlRules.{Short, enough, enough-is, settled-9, settled-10, settled-11, settled-12, control-bits}
+use Rattle.rules.proofs.ControlRules.{Short, enough, enough-is, settled-9, settled-10, settled-bit}
 use Rattle.rules.proofs.Codes.{content, sizes, headed-of}
 use Rattle.rules.proofs.Banks.{Shown, control-is, code-is}
 use Rattle.rules.proofs.CodeReads.{take-inside, parts-read}
@@ -185,8 +185,8 @@ headerRules b =
     rule 14 (OfBank b λ s. ¬ (wordCount b ≡ words s)) (_≡ 0x10) ∷
     rule 15 (OfBank b λ s. OneAfter b (zerosFrom s)) (λ p. OfBank b λ s. FirstOne b (zerosFrom s) p) ∷ schemeRules b
 
-header-reads : (b : List ℕ) (s : Scheme) → bankSize (wordCount b) ≤ length b → take 16 (spread 2 8 b) ≡ binary 5 (wordCount b) ++ replicate 11 0 → at b 0x20 8 ≡ about s .header
-    → Reads (headerRules b) (Shown b) (demand (eqb (wordCount b) (words s)) 14 0x10 >> (demand (allZero (drop (zerosFrom s) (codeIn b))) 15 (one-at b (zerosFrom s)) >> (fieldsIn 0x28 (layout s) (drop 8 (codeIn b)) >>= λ ps. taken (record { scheme = s; parts = ps }))))
+header-reads : (b : List ℕ) (s : Scheme) → bankSize (wordCount b) ≤ length b → take 16 (spread 2 8 b) ≡ binary 5 (wordCount b) ++ controlBits (controlFields b) → at b 0x20 8 ≡ about s .header
+    → Reads (headerRules b) (Shown b) (demand (eqb (wordCount b) (words s)) 14 0x10 >> (demand (allZero (drop (zerosFrom s) (codeIn b))) 15 (one-at b (zerosFrom s)) >> (fieldsIn 0x28 (layout s) (drop 8 (codeIn b)) >>= λ ps. taken (record { scheme = s; control = controlFields b; parts = ps }))))
 header-reads b s long control e =
     let W = wordCount b in
     let c = codeIn b in
@@ -198,9 +198,9 @@ header-reads b s long control e =
     check _ (Shown b) 15 _ _ (T (allZero (drop m c))) (demand (allZero (drop m c)) 15 p) _ (lit< tt)
     (settled-at 15 p (OfBank b λ s. OneAfter b (zerosFrom s)) (λ p. OfBank b λ s. FirstOne b (zerosFrom s) p) (allZero (drop m c))
     (λ h. let (o, f) = one-after b long m h in ((s, e, o), (s, e, f))) (λ h o. none-after b long m h (of-bank b s e (λ s. OneAfter b (zerosFrom s)) .1 o))) λ z.
-    reads-map (schemeRules b) (PartsShown b s long count e) (Shown b) (λ ps. record { scheme = s; parts = ps }) (fieldsIn 0x28 (layout s) (drop 8 c)) (scheme-reads b s long count e) λ ps i.
+    reads-map (schemeRules b) (PartsShown b s long count e) (Shown b) (λ ps. record { scheme = s; control = controlFields b; parts = ps }) (fieldsIn 0x28 (layout s) (drop 8 c)) (scheme-reads b s long count e) λ ps i.
     record {
-      fits = i .1;
+      fits = record { parts = i .1; control = (omega (arith, at-lt b 0x15 1), omega (arith, at-lt b 0x18 8)) };
       count = count;
       long = long;
       control = rw (← count) control;
@@ -230,26 +230,23 @@ pub record Clean (b : List ℕ) (W : ℕ) : Type 0 where
   pub two : 2 ≤ length b
   pub long : bankSize (wordCount b) ≤ length b
   pub toggle : at b 0x17 1 ≡ 0
-  pub control : at b 0x15 2 ≡ 0
-  pub attributes : at b 0x18 8 ≡ 0
+  pub xpc : at b 0x16 1 ≡ 0
 
 abbrev controlRules : List ℕ → List Rule
 controlRules b =
     rawRules b ++
     (rule 11 (at b 0x17 1 ≡ 1) (_≡ 0x17) ∷
-    rule 12 (¬ ((at b 0x15 1 ≡ 0) × (at b 0x16 1 ≡ 0) × (at b 0x18 8 ≡ 0))) (_≡ 0x15) ∷ [])
+    rule 12 (at b 0x16 1 ≡ 1) (_≡ 0x16) ∷ [])
 
 pub control-reads : (b : List ℕ) → Reads (controlRules b) (Clean b) (controlIn b)
 control-reads b =
     let R = Clean b in
     reads-bind (rawRules b) _ (HasWords b) R (wordsIn b) _ (words-reads b) λ W (count, full, two, long).
     let t = at b 0x17 1 in
-    check _ R 11 (t ≡ 1) (_≡ 0x17) (T (eqb t 0)) (demand (eqb t 0) 11 0x17) _ (lit< tt) (settled-11 t (at-lt b 0x17 1)) λ toggle.
-    let u = at b 0x15 2 in
-    let v = at b 0x18 8 in
-    check [] R 12 _ (_≡ 0x15) (T (eqb u 0 && eqb v 0)) (demand (eqb u 0 && eqb v 0) 12 0x15) (taken W) (lit< tt) (settled-12 (at b 0x15 1) (at b 0x16 1) u v (control-bits b two)) λ z.
-    let (x, y) = both (eqb u 0) (eqb v 0) z in
-    (tt, record { count = count; some-words = full; two = two; long = long; toggle = eqb→eq t 0 toggle; control = eqb→eq u 0 x; attributes = eqb→eq v 0 y })
+    check _ R 11 (t ≡ 1) (_≡ 0x17) (T (eqb t 0)) (demand (eqb t 0) 11 0x17) _ (lit< tt) (settled-bit 11 0x17 t (at-lt b 0x17 1)) λ toggle.
+    let x = at b 0x16 1 in
+    check [] R 12 (x ≡ 1) (_≡ 0x16) (T (eqb x 0)) (demand (eqb x 0) 12 0x16) (taken W) (lit< tt) (settled-bit 12 0x16 x (at-lt b 0x16 1)) λ xpc.
+    (tt, record { count = count; some-words = full; two = two; long = long; toggle = eqb→eq t 0 toggle; xpc = eqb→eq x 0 xpc })
 
 pub clean-of : (b : List ℕ) (W : ℕ) → controlIn b ≡ taken W → Clean b W
 clean-of b W e = (rw e at (control-reads b)) .1
@@ -261,7 +258,7 @@ bank-reads b =
     let h = value 2 (take 8 (codeIn b)) in
     step (headerRules b) (Shown b) 13 (¬ (Headed b)) (_≡ 0x20) _ (given (headed h schemes) 13 0x20) _ (lit< tt)
     (settled-given 13 0x20 (¬ (Headed b)) _ (headed h schemes) (header-decided b h (header-seen b (c .long) (c .some-words)))) λ s i.
-    rw (c .count) (header-reads b s (c .long) (control-is b (wordCount b) (c .two) refl (c .toggle) (c .control) (c .attributes)) i)
+    rw (c .count) (header-reads b s (c .long) (control-is b (c .two) (c .xpc) (c .toggle)) i)
 
 -- The raw line is refused by 9 and 10 alone.
 pub raw-reads : (b : List ℕ) → Reads (rawRules b) (λ w. (w ≡ rawText b) × (2 ≤ length b) × (bankSize (wordCount b) ≤ length b)) (rawOfBank b)

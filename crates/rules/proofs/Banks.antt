@@ -12,10 +12,12 @@ use Rattle.numeral.proofs.Values.{length-numeral, digits-numeral, digits-append
 use Rattle.numeral.proofs.Spreads.{length-spread, digits-spread, spread-append, take-spread, length-gather, spread-gather, gather-spread}
 use Rattle.rules.specs.Answers.{taken}
 use Rattle.rules.specs.declared.Scheme.{Scheme}
+use Rattle.rules.specs.declared.ControlFields.{ControlFields}
 use Rattle.rules.specs.Schemes.{about, words, zeroBits}
-use Rattle.rules.specs.Grammar.{layout, Tag, Fits}
-use Rattle.rules.specs.Coding.{binary, coded, codeOf, bitsOf, bankSize, bankOf, at, wordCount, TagBank}
-use Rattle.rules.specs.BankNumbers.{allZero, codeIn, tagOfBank}
+use Rattle.rules.specs.ControlFields.{ControlFits}
+use Rattle.rules.specs.Grammar.{layout, Tag, Fits, TagFits}
+use Rattle.rules.specs.Coding.{binary, coded, codeOf, controlBits, bitsOf, bankSize, bankOf, at, wordCount, TagBank}
+use Rattle.rules.specs.BankNumbers.{allZero, codeIn, controlFields, tagOfBank}
 use Rattle.rules.proofs.Tests.{is-true, and}
 use Rattle.rules.proofs.Numbers.{front, read}
 use Rattle.rules.proofs.Groups.{zeros-of, zeros-is}
@@ -24,6 +26,16 @@ use Rattle.rules.proofs.Codes.{sizes, headed-of, coded-bits, content-le
 -- The header and the parts, before the fill.
 abbrev body : Scheme → List (List ℕ) → List ℕ
 body s ps = binary 8 (about s .header) ++ coded (layout s) ps
+
+-- the control bits
+control-length : (c : ControlFields) → length (controlBits c) ≡ 11
+unfolding numeral
+control-length c = refl
+
+control-bits : (c : ControlFields) → Digits 2 (controlBits c)
+control-bits c =
+    digits-append 2 (binary 1 (c .umi)) (replicate 2 0 ++ binary 8 (c .att)) (digits-numeral 2 1 (c .umi) (lit< tt))
+    (digits-append 2 (replicate 2 0) (binary 8 (c .att)) (digits-zeros 2 2 (lit< tt)) (digits-numeral 2 8 (c .att) (lit< tt)))
 
 module _ (s : Scheme) (ps : List (List ℕ)) (h : Fits (layout s) ps) where
   body-length : length (body s ps) ≡ about s .bits - zeroBits (about s .parts)
@@ -38,34 +50,44 @@ module _ (s : Scheme) (ps : List (List ℕ)) (h : Fits (layout s) ps) where
       (digits-append 2 (binary 8 (about s .header)) (coded (layout s) ps) (digits-numeral 2 8 (about s .header) (lit< tt)) (coded-bits h))
       (digits-zeros 2 (16 * words s - length (body s ps)) (lit< tt))
 
-  bits-length : length (bitsOf s ps) ≡ 8 * bankSize (words s)
-  bits-length = rw (length-append (binary 5 (words s)), length-numeral, code-length) (omega arith)
+  bits-length : (c : ControlFields) → length (bitsOf s c ps) ≡ 8 * bankSize (words s)
+  bits-length c =
+      rw (length-append (binary 5 (words s)), length-numeral, length-append (controlBits c), code-length) (omega (arith, control-length c))
 
-  bits-bits : Digits 2 (bitsOf s ps)
-  bits-bits =
-      digits-append 2 (binary 5 (words s)) (replicate 11 0 ++ codeOf s ps) (digits-numeral 2 5 (words s) (lit< tt))
-      (digits-append 2 (replicate 11 0) (codeOf s ps) (digits-zeros 2 11 (lit< tt)) code-bits)
+  bits-bits : (c : ControlFields) → Digits 2 (bitsOf s c ps)
+  bits-bits c =
+      digits-append 2 (binary 5 (words s)) (controlBits c ++ codeOf s ps) (digits-numeral 2 5 (words s) (lit< tt))
+      (digits-append 2 (controlBits c) (codeOf s ps) (control-bits c) code-bits)
 
-  bank-bits : spread 2 8 (bankOf (record { scheme = s; parts = ps })) ≡ bitsOf s ps
+  bank-bits : (c : ControlFields) → spread 2 8 (bankOf (record { scheme = s; control = c; parts = ps })) ≡ bitsOf s c ps
   unfolding bankOf
-  bank-bits = spread-gather 2 8 (bankSize (words s)) (bitsOf s ps) (lit< tt) bits-bits bits-length
+  bank-bits c = spread-gather 2 8 (bankSize (words s)) (bitsOf s c ps) (lit< tt) (bits-bits c) (bits-length c)
 
 pub bank-length : (τ : Tag) → length (bankOf τ) ≡ bankSize (words (τ .scheme))
 unfolding bankOf
-bank-length τ = length-gather 2 8 (bankSize (words (τ .scheme))) (bitsOf (τ .scheme) (τ .parts))
+bank-length τ = length-gather 2 8 (bankSize (words (τ .scheme))) (bitsOf (τ .scheme) (τ .control) (τ .parts))
 
 -- A bank that begins with a tag's bits is read as that tag.
-first-word : (W : ℕ) (c z l : List ℕ) → l ≡ (binary 5 W ++ (replicate 11 0 ++ c)) ++ z
-    → (value 2 (take 1 (drop 7 l)) ≡ 0) × (value 2 (take 2 (drop 5 l)) ≡ 0) × (value 2 (take 8 (drop 8 l)) ≡ 0) × (drop 16 l ≡ c ++ z)
-unfolding value numeral
-first-word W c z l e = rw e (refl, refl, refl, refl)
+pub record FirstWord (c : ControlFields) (z l : List ℕ) : Type 0 where
+  pub toggle : value 2 (take 1 (drop 7 l)) ≡ 0
+  pub xpc : value 2 (take 1 (drop 6 l)) ≡ 0
+  pub umi : value 2 (take 1 (drop 5 l)) ≡ c .umi
+  pub att : value 2 (take 8 (drop 8 l)) ≡ c .att
+  pub code : drop 16 l ≡ z
 
-module _ (b : List ℕ) (s : Scheme) (ps : List (List ℕ)) (h : Fits (layout s) ps) (z : List ℕ) (e : spread 2 8 b ≡ bitsOf s ps ++ z) where
+first-word : (W : ℕ) (c : ControlFields) (x z l : List ℕ) → ControlFits c → l ≡ (binary 5 W ++ (controlBits c ++ x)) ++ z → FirstWord c (x ++ z) l
+unfolding value numeral
+first-word W c x z l fits e = rw e (record { toggle = refl; xpc = refl; umi = omega (arith, fits .0); att = omega (arith, fits .1); code = refl })
+
+module _ (b : List ℕ) (s : Scheme) (c : ControlFields) (ps : List (List ℕ)) (h : Fits (layout s) ps) (fits : ControlFits c) (z : List ℕ) (e : spread 2 8 b ≡ bitsOf s c ps ++ z) where
   count-of : wordCount b ≡ words s
   count-of = rw (e, append-assoc (binary 5 (words s))) (read 5 (words s) _ (sizes s .few-words) .0)
 
+  first-of : FirstWord c (codeOf s ps ++ z) (spread 2 8 b)
+  first-of = first-word (words s) c (codeOf s ps) z (spread 2 8 b) fits e
+
   code-of : codeIn b ≡ codeOf s ps
-  code-of = rw (count-of, first-word (words s) (codeOf s ps) z (spread 2 8 b) e .3) (take-at (codeOf s ps) z (16 * words s) (code-length s ps h))
+  code-of = rw (count-of, first-of .code) (take-at (codeOf s ps) z (16 * words s) (code-length s ps h))
 
   fill : List ℕ
   fill = replicate (16 * words s - length (body s ps)) 0
@@ -79,17 +101,17 @@ module _ (b : List ℕ) (s : Scheme) (ps : List (List ℕ)) (h : Fits (layout s)
       let k = 16 * words s - length (body s ps) in
       rw (drop-at (body s ps) (replicate k 0) (about s .bits - zeroBits (about s .parts)) (body-length s ps h)) (zeros-of k)
 
-  read-of : bankSize (words s) ≤ length b → tagOfBank b ≡ taken (record { scheme = s; parts = ps })
+  read-of : bankSize (words s) ≤ length b → tagOfBank b ≡ taken (record { scheme = s; control = c; parts = ps })
   unfolding tagOfBank
   read-of long =
       let w = words s in
-      let c = first-word w (codeOf s ps) z (spread 2 8 b) e in
       rw (
         code-of,
         count-of,
-        c .0,
-        c .1,
-        c .2,
+        first-of .toggle,
+        first-of .xpc,
+        first-of .umi,
+        first-of .att,
         is-true (leb 2 (length b) && leb (bankSize w) (length b)) (and (leb 2 (length b)) (leb (bankSize w) (length b)) (le→leb 2 (length b) (omega arith)) (le→leb (bankSize w) (length b) long)),
         is-true (ltb 0 w) (lt→ltb 0 w (sizes s .some-words)),
         header-of .0,
@@ -103,17 +125,18 @@ module _ (b : List ℕ) (s : Scheme) (ps : List (List ℕ)) (h : Fits (layout s)
 pub tag-of : (b : List ℕ) (τ : Tag) → TagBank b τ → tagOfBank b ≡ taken τ
 tag-of b τ r =
     let s = τ .scheme in
+    let c = τ .control in
     let n = bankSize (wordCount b) in
-    let e : spread 2 8 b ≡ bitsOf s (τ .parts) ++ spread 2 8 (drop n b) =
-    ap (spread 2 8) (sym (take-append-drop n b)) ∙ spread-append 2 8 (take n b) (drop n b) ∙ ap (_++ spread 2 8 (drop n b)) (ap (spread 2 8) (r .bank) ∙ bank-bits s (τ .parts) (r .fits)) in
-    read-of b s (τ .parts) (r .fits) (spread 2 8 (drop n b)) e (omega (arith, simp length-take at (ap length (r .bank)), bank-length τ))
+    let e : spread 2 8 b ≡ bitsOf s c (τ .parts) ++ spread 2 8 (drop n b) =
+    ap (spread 2 8) (sym (take-append-drop n b)) ∙ spread-append 2 8 (take n b) (drop n b) ∙ ap (_++ spread 2 8 (drop n b)) (ap (spread 2 8) (r .bank) ∙ bank-bits s (τ .parts) (r .fits .parts) c) in
+    read-of b s c (τ .parts) (r .fits .parts) (r .fits .control) (spread 2 8 (drop n b)) e (omega (arith, simp length-take at (ap length (r .bank)), bank-length τ))
 
 -- The other way: the bits of a bank that are a tag's.
 pub record Shown (b : List ℕ) (τ : Tag) : Type 0 where
-  pub fits : Fits (layout (τ .scheme)) (τ .parts)
+  pub fits : TagFits τ
   pub count : wordCount b ≡ words (τ .scheme)
   pub long : bankSize (wordCount b) ≤ length b
-  pub control : take 16 (spread 2 8 b) ≡ binary 5 (words (τ .scheme)) ++ replicate 11 0
+  pub control : take 16 (spread 2 8 b) ≡ binary 5 (words (τ .scheme)) ++ controlBits (τ .control)
   pub code : codeIn b ≡ codeOf (τ .scheme) (τ .parts)
 
 pub shown-bank : (b : List ℕ) (τ : Tag) → Digits 256 b → Shown b τ → TagBank b τ
@@ -124,43 +147,50 @@ shown-bank b τ d r =
     let S = spread 2 8 b in
     let m : 8 * n ≡ 16 + 16 * words s = omega arith in
     let c : take (16 * words s) (drop 16 S) ≡ codeOf s (τ .parts) = rw (r .count) at (r .code) in
-    let t : spread 2 8 (take n b) ≡ bitsOf s (τ .parts) =
-    sym (take-spread 2 8 n b) ∙ rw (m, take-add 16 (16 * words s) S, r .control, c) (append-assoc (binary 5 (words s)) (replicate 11 0) (codeOf s (τ .parts))) in
+    let t : spread 2 8 (take n b) ≡ bitsOf s (τ .control) (τ .parts) =
+    sym (take-spread 2 8 n b) ∙ rw (m, take-add 16 (16 * words s) S, r .control, c) (append-assoc (binary 5 (words s)) (controlBits (τ .control)) (codeOf s (τ .parts))) in
     record {
       fits = r .fits;
       bank = rw (r .count) (sym (rw t at (gather-spread 2 8 n (take n b) (digits-take 256 n b d) (length-take-le n b (omega (arith, r .long, r .count))))));
     }
 
 -- a tag's own bank shows it
-pub own-bank : (τ : Tag) → Fits (layout (τ .scheme)) (τ .parts) → TagBank (bankOf τ) τ
+pub own-bank : (τ : Tag) → TagFits τ → TagBank (bankOf τ) τ
 own-bank τ h =
     let s = τ .scheme in
-    let e : spread 2 8 (bankOf τ) ≡ bitsOf s (τ .parts) ++ [] = bank-bits s (τ .parts) h ∙ sym (append-nil (bitsOf s (τ .parts))) in
-    let n = count-of (bankOf τ) s (τ .parts) h [] e in
+    let l = bitsOf s (τ .control) (τ .parts) in
+    let e : spread 2 8 (bankOf τ) ≡ l ++ [] = bank-bits s (τ .parts) (h .parts) (τ .control) ∙ sym (append-nil l) in
+    let n = count-of (bankOf τ) s (τ .control) (τ .parts) (h .parts) (h .control) [] e in
     record { fits = h; bank = take-all (bankSize (wordCount (bankOf τ))) (bankOf τ) (omega (arith, n, bank-length τ)) }
 
 -- the control word, from its fields
 bits-at : (l : List ℕ) (a n v : ℕ) → Digits 2 l → a + n ≤ length l → value 2 (take n (drop a l)) ≡ v → take n (drop a l) ≡ binary n v
 bits-at l a n v d r e = rw (← e) (sym (front n (drop a l) (digits-drop 2 a l d) (rw length-drop (omega arith)) .0))
 
-pub control-is : (b : List ℕ) (W : ℕ) → 2 ≤ length b → wordCount b ≡ W → at b 0x17 1 ≡ 0 → at b 0x15 2 ≡ 0 → at b 0x18 8 ≡ 0
-    → take 16 (spread 2 8 b) ≡ binary 5 W ++ replicate 11 0
+control-word : (b : List ℕ) (W u a : ℕ) → 2 ≤ length b → wordCount b ≡ W → at b 0x15 1 ≡ u → at b 0x16 1 ≡ 0 → at b 0x17 1 ≡ 0 → at b 0x18 8 ≡ a
+    → take 16 (spread 2 8 b) ≡ binary 5 W ++ controlBits (record { umi = u; att = a })
 unfolding numeral
-control-is b W r e t u v =
+control-word b W u a r e m x t v =
     let l = spread 2 8 b in
     let d = digits-spread 2 8 b (lit< tt) in
     let n : 16 ≤ length (spread 2 8 b) = omega (arith, length-spread 2 8 b) in
     rw (
       take-add 5 11 l,
-      take-add 2 9 (drop 5 l),
-      drop-drop 2 5 l,
+      take-add 1 10 (drop 5 l),
+      drop-drop 1 5 l,
+      take-add 1 9 (drop 6 l),
+      drop-drop 1 6 l,
       take-add 1 8 (drop 7 l),
       drop-drop 1 7 l,
       bits-at l 0 5 W d (omega arith) e,
-      bits-at l 5 2 0 d (omega arith) u,
+      bits-at l 5 1 u d (omega arith) m,
+      bits-at l 6 1 0 d (omega arith) x,
       bits-at l 7 1 0 d (omega arith) t,
-      bits-at l 8 8 0 d (omega arith) v,
+      bits-at l 8 8 a d (omega arith) v,
     )
+
+pub control-is : (b : List ℕ) → 2 ≤ length b → at b 0x16 1 ≡ 0 → at b 0x17 1 ≡ 0 → take 16 (spread 2 8 b) ≡ binary 5 (wordCount b) ++ controlBits (controlFields b)
+control-is b r x t = control-word b (wordCount b) (at b 0x15 1) (at b 0x18 8) r refl refl x t refl
 
 -- the code, from its header, its parts and its fill
 pub code-is : (s : Scheme) (ps : List (List ℕ)) (c z : List ℕ) → Digits 2 c → length c ≡ 16 * words s → value 2 (take 8 c) ≡ about s .header

@@ -42,21 +42,6 @@ settled-9 b = settled-demand 9 (length b) (Short b) (enough b) (short-is b) (not
 pub settled-10 : (W : ℕ) → Settled 10 (W ≡ 0) (_≡ 0x10) (λ _. T (ltb 0 W)) (demand (ltb 0 W) 10 0x10)
 settled-10 W = settled-demand 10 0x10 (W ≡ 0) (ltb 0 W) (λ t. omega (arith, nltb→le 0 W t)) (λ t e. omega (arith, ltb→lt 0 W t))
 
-pub settled-11 : (t : ℕ) → t < 2 → Settled 11 (t ≡ 1) (_≡ 0x17) (λ _. T (eqb t 0)) (demand (eqb t 0) 11 0x17)
-settled-11 t l = settled-demand 11 0x17 (t ≡ 1) (eqb t 0) (λ h. omega (arith, apart t 0 h)) (λ h e. omega (arith, eqb→eq t 0 h))
-
--- two bits are 0 exactly if each of them is
-pub settled-12 : (x y u v : ℕ) → u ≡ x * 2 + y → Settled 12 (¬ ((x ≡ 0) × (y ≡ 0) × (v ≡ 0))) (_≡ 0x15) (λ _. T (eqb u 0 && eqb v 0)) (demand (eqb u 0 && eqb v 0) 12 0x15)
-settled-12 x y u v e = settled-demand 12 0x15 (¬ ((x ≡ 0) × (y ≡ 0) × (v ≡ 0))) (eqb u 0 && eqb v 0) some-one all-zero
-  where
-    some-one : T (not (eqb u 0 && eqb v 0)) → ¬ ((x ≡ 0) × (y ≡ 0) × (v ≡ 0))
-    some-one h (p, q, r) = T-not (eqb u 0 && eqb v 0) h (and (eqb u 0) (eqb v 0) (eq→eqb u 0 (omega arith)) (eq→eqb v 0 r))
-
-    all-zero : T (eqb u 0 && eqb v 0) → ¬ (¬ ((x ≡ 0) × (y ≡ 0) × (v ≡ 0)))
-    all-zero h f =
-        let (a, b) = both (eqb u 0) (eqb v 0) h in
-        let p = eqb→eq u 0 a in
-        f (omega arith, omega arith, eqb→eq v 0 b)
-
-pub control-bits : (b : List ℕ) → 2 ≤ length b → at b 0x15 2 ≡ at b 0x15 1 * 2 + at b 0x16 1
-control-bits b h = field-more 2 (spread 2 8 b) 5 1 1 (omega (arith, length-spread 2 8 b))
+-- 11 and 12: a bit that must be 0 is 1
+pub settled-bit : (n p t : ℕ) → t < 2 → Settled n (t ≡ 1) (_≡ p) (λ _. T (eqb t 0)) (demand (eqb t 0) n p)
+settled-bit n p t l = settled-demand n p (t ≡ 1) (eqb t 0) (λ h. omega (arith, apart t 0 h)) (λ h e. omega (arith, eqb→eq t 0 h))

@@ -1,5 +1,5 @@
 -- The known tags, run through the public calls: document 01's rows 1 to 14 with tagline's example, an example of
--- 001's annex for each scheme, and gdti-113, which has none there, by hand; and places.
+-- 001's annex for each scheme, and gdti-113, which has none there, by hand; control fields; and places.
 use Prim.Native.Nat.{ℕ}
 use Prim.Native.String.{String}
 use mathlib.Core.Path.{_≡_, refl}
@@ -12,7 +12,7 @@ use Rattle.rules.specs.Schemes.{schemes, rows}
 use Rattle.rules.specs.Characters.{tableA1, escaped}
 use Rattle.rules.specs.Grammar.{textOf, start}
 use Rattle.rules.specs.Coding.{bankOf}
-use Rattle.rules.specs.TextNumbers.{tagOfText}
+use Rattle.rules.specs.TextNumbers.{valueIn, tagOfText}
 use Rattle.rules.specs.BankNumbers.{tagOfBank}
 use Rattle.rules.specs.Raw.{rawText, rawOfBank}
 use Rattle.rules.specs.Calls.{Call, call, textToBank, bankToText, rawLine, bankRoom, textRoom}
@@ -85,7 +85,7 @@ rows1to14 =
     -- 12
     bank (words6 0x3000_3003FFFFFFFFFC0000000000) 17 0x2E ∷
     -- 13
-    bank (words6 0x3001_3074257BF7194E4000001A85) 12 0x15 ∷
+    each "urn:epc:tag:[att=x01]:sgtin-96:3.0614141.812345.6789" (words6 0x3001_3074257BF7194E4000001A85) ∷
     bank (words6 0x3100_3074257BF7194E4000001A85) 11 0x17 ∷
     bank (words6 0x0000_3074257BF7194E4000001A85) 10 0x10 ∷
     -- 14
@@ -137,9 +137,42 @@ unfoldable pub section12 : List Known
 section12 =
     raw (words6 0x3601_1234567890ABCDEF01234567) "urn:epc:raw:96.x1234567890ABCDEF01234567" ∷
     raw (words6 0x31C1_1234567890ABCDEF01234567) "urn:epc:raw:96.xC1.x1234567890ABCDEF01234567" ∷
-    bank (words6 0x3601_1234567890ABCDEF01234567) 12 0x15 ∷
+    bank (words6 0x3601_1234567890ABCDEF01234567) 12 0x16 ∷
     bank (words6 0x31C1_1234567890ABCDEF01234567) 11 0x17 ∷
     bank (words6 0x3000_1234567890ABCDEF01234567) 13 0x20 ∷ []
+
+-- Control fields (document 02, C-13): 001, section 12, lines 5497 (its xpc is none of ours), 5529 and 5534, whose text stands in 000, line 2870;
+-- and its order of both fields, which is not ours. Then each field, both, and the largest attribute.
+unfoldable pub fields : List Known
+fields =
+    text "urn:epc:tag:[att=x01][xpc=x0004]:sgtin-96:3.9521141.112345.400" 20 21 ∷
+    each "urn:epc:tag:sgtin-96:3.9521141.112345.400" (words6 0x3000_3076451FD46DB64000000190) ∷
+    each "urn:epc:tag:[att=x01]:sgtin-96:3.9521141.112345.400" (words6 0x3001_3076451FD46DB64000000190) ∷
+    each "urn:epc:tag:[att=x01]:sgtin-96:3.0614141.112345.400" (words6 0x3001_3074257BF46DB64000000190) ∷
+    text "urn:epc:tag:[att=x01][umi=1]:sgtin-96:3.9521141.112345.400" 20 21 ∷
+    each "urn:epc:tag:[umi=1][att=x01]:sgtin-96:3.9521141.112345.400" (words6 0x3401_3076451FD46DB64000000190) ∷
+    each "urn:epc:tag:[umi=1]:gid-96:952056.2718.1414" (words6 0x3400_3500E86F8000A9E000000586) ∷
+    each "urn:epc:tag:[att=xFF]:sscc-96:3.0614141.1234567890" (words6 0x30FF_3174257BF4499602D2000000) ∷
+    each "urn:epc:tag:[umi=1][att=xA0]:sgtin-198:0.0614141.812345.a.b" (words13 0x6CA0_3614257BF7194E70AEC400000000000000000000000000000000) ∷
+    -- a field that is zero, in lower case, cut, without its x, unknown, repeated
+    text "urn:epc:tag:[umi=0]:gid-96:1.2.3" 20 12 ∷
+    text "urn:epc:tag:[umi=1][att=x00]:gid-96:1.2.3" 20 19 ∷
+    text "urn:epc:tag:[att=xff]:gid-96:1.2.3" 20 12 ∷
+    text "urn:epc:tag:[umi=1][att=x0" 20 19 ∷
+    text "urn:epc:tag:[att=01]:gid-96:1.2.3" 20 12 ∷
+    text "urn:epc:tag:[afi=x01]:gid-96:1.2.3" 20 12 ∷
+    text "urn:epc:tag:[umi=1][umi=1]:gid-96:1.2.3" 20 19 ∷
+    text "urn:epc:tag:[umi=1][att=x01][att=x02]:gid-96:1.2.3" 20 28 ∷
+    -- no colon; a text of fields alone; a name and parts behind them
+    text "urn:epc:tag:[umi=1]gid-96:1.2.3" 20 19 ∷
+    text "urn:epc:tag:[umi=1][att=x01]" 20 28 ∷
+    text "urn:epc:tag:[umi=1][att=x01]:" 3 29 ∷
+    text "urn:epc:tag:[att=x01]:[umi=1]:gid-96:1.2.3" 3 22 ∷
+    text "urn:epc:tag::gid-96:1.2.3" 3 12 ∷
+    text "urn:epc:tag:[umi=1]:gid-96:1.2.x" 7 31 ∷
+    -- bit 16h alone, and with all others but the toggle
+    bank (words6 0x3200_3500E86F8000A9E000000586) 12 0x16 ∷
+    bank (words6 0x36FF_3500E86F8000A9E000000586) 12 0x16 ∷ []
 
 -- Places, counted by hand (document 02, C-12). A part that is missing has the offset where it would begin; 15 has its first bit that is 1, and
 -- 19 the first bit of the string, whichever group is wrong.
@@ -165,6 +198,6 @@ places =
     bank (words13 0x6800_3614257BF7194E70AEC400000000000000000000000000000400) 19 0x5A ∷
     bank (words6 0x3000_3F76451FD612640000000002) 19 0x57 ∷ []
 
-pub known-tags : (map gives rows1to14 ≡ map expected rows1to14) × (map gives annex ≡ map expected annex) × (map gives by-hand ≡ map expected by-hand) × (map gives section12 ≡ map expected section12) × (map gives places ≡ map expected places)
-unfolding rows1to14 annex by-hand section12 places gives expected words6 words8 words11 words13 blank textToBank bankToText rawLine tagOfText tagOfBank rawOfBank rawText bankOf textOf gather value numeral spread sizeIn size shortest schemes rows tableA1 escaped start
-known-tags = (refl, refl, refl, refl, refl)
+pub known-tags : (map gives rows1to14 ≡ map expected rows1to14) × (map gives annex ≡ map expected annex) × (map gives by-hand ≡ map expected by-hand) × (map gives section12 ≡ map expected section12) × (map gives fields ≡ map expected fields) × (map gives places ≡ map expected places)
+unfolding rows1to14 annex by-hand section12 fields places gives expected words6 words8 words11 words13 blank textToBank bankToText rawLine tagOfText valueIn tagOfBank rawOfBank rawText bankOf textOf gather value numeral spread sizeIn size shortest schemes rows tableA1 escaped start
+known-tags = (refl, refl, refl, refl, refl, refl)

@@ -1,17 +1,18 @@
--- How long texts, banks and raw lines are: at most 99, 64 and 145, and the first and the last of these are reached.
-use Prim.Native.Nat.{ℕ, suc, _+_, _-_, _*_, _/_, _^_, _≤_, _<_}
+-- How long texts, banks and raw lines are: at most 116, 64 and 145, and the first and the last of these are reached.
+use Prim.Native.Nat.{ℕ, zero, suc, _+_, _-_, _*_, _/_, _^_, _≤_, _<_}
 use mathlib.Core.Path.{_≡_, refl, ap}
 use mathlib.Core.List.{List, [], _∷_, _++_}
-use mathlib.Core.Bool.{Bool, true, false}
+use mathlib.Core.Bool.{Bool, true, false, cond}
 use native.Mathlib.Omega.{arith}
 use native.Mathlib.Nat.{le-trans}
-use lib.Dec.{T, leb, ltb, leb→le, ltb→lt, eqb→eq, lit<, lit≤}
+use lib.Dec.{T, leb, ltb, leb→le, nleb→lt, ltb→lt, eqb→eq, lit<, lit≤}
 use lib.ListN.{length, drop, replicate, length-append, length-map, length-take, length-drop}
 use Rattle.numeral.specs.Numeral.{value, numeral, spread, sizeIn, size, shortest}
 use Rattle.numeral.proofs.Shortest.{length-shortest, size-le}
 use Rattle.rules.specs.Bytes.{digitsText, bytes, hexText}
 use Rattle.rules.specs.declared.Scheme.{Scheme}
 use Rattle.rules.specs.declared.Scheme.the-variants.{Sgtin96, Sgtin198, Sscc96, Sgln96, Sgln195, Grai96, Grai170, Giai96, Gsrn96, Gsrnp96, Gdti96, Gdti174, Gid96, Gdti113, Sgcn96, Cpi96}
+use Rattle.rules.specs.declared.ControlFields.{ControlFields}
 use Rattle.rules.specs.declared.Table.{Table}
 use Rattle.rules.specs.declared.Body.{Body}
 use Rattle.rules.specs.declared.Body.the-variants.{Then, Zeros, E}
@@ -19,9 +20,10 @@ use Rattle.rules.specs.declared.Parts.{Parts}
 use Rattle.rules.specs.declared.Parts.the-variants.{F, Integers}
 use Rattle.rules.specs.Schemes.{Form, company, digits, integer, string, atMost, numeric, counted, Row, rows, rowOf, cell, assetBits, prefixDigits, partition, lastForm, schemes, about, words}
 use Rattle.rules.specs.Characters.{tableA1, escaped, plain, spelling, stringText}
+use Rattle.rules.specs.ControlFields.{umi, att, standing, fieldsText, closed, controlText}
 use Rattle.rules.specs.Grammar.{plainNumber, last, Layout, part, end, laid, bodyLayout, Fit, Fits, more, one, spelled, written, Tag, TagText, textOf, start, label}
 use Rattle.rules.specs.Coding.{wordCount, within, bankOf}
-use Rattle.rules.specs.TextNumbers.{tagOfText, textNumber}
+use Rattle.rules.specs.TextNumbers.{valueIn, tagOfText, textNumber}
 use Rattle.rules.specs.Raw.{afi, afiText, rawText}
 use Rattle.rules.proofs.Tests.{both, every, each}
 use Rattle.rules.proofs.Decimals.{all-digits}
@@ -139,16 +141,44 @@ parts-within (F body) m h = (
 parts-within (Integers a b c) m h =
     (integer-within a m (h .0) .0, λ p q. (omega arith, (integer-within b (m - suc (a / 3)) (h .1) .0, λ p q. (omega arith, end-within (integer c) (m - suc (a / 3) - suc (b / 3)) (h .2)))))
 
--- what is left of 99 characters behind the start, the name and the colon
-abbrev pub left : Scheme → ℕ
-left s = 99 - (12 + length (label s))
+-- The control fields: 7 characters, 9, and the colon.
+pub fields-length : (c : ControlFields) → length (fieldsText c) ≤ 16
+fields-length c = go (c .umi) (c .att)
+  where
+    go : (u a : ℕ) → length (standing umi u ++ standing att a) ≤ 16
+    go zero zero = lit≤ tt
+    go zero (suc a) = lit≤ tt
+    go (suc u) zero = lit≤ tt
+    go (suc u) (suc a) = lit≤ tt
 
--- what is seen scheme by scheme: the words, the name, and that 99 characters are enough
+closed-length : (l : List ℕ) → length (closed l) ≤ length l + 1
+closed-length [] = omega arith
+closed-length (x ∷ xs) = rw (length-append (x ∷ xs)) (omega arith)
+
+pub control-length : (c : ControlFields) → length (controlText c) ≤ 17
+control-length c = omega (arith, fields-length c, closed-length (fieldsText c))
+
+-- without them: 99 characters are enough, and 96 for six words
+abbrev pub characters : ℕ → ℕ
+characters W = cond (leb W 6) 96 99
+
+pub characters-few : (W : ℕ) → 6 ≤ W → (96 ≤ characters W) × (characters W ≤ 99) × (characters W ≤ 16 * W)
+characters-few W l = go (leb W 6) refl
+  where
+    go : (t : Bool) → leb W 6 ≡ t → (96 ≤ cond t 96 99) × (cond t 96 99 ≤ 99) × (cond t 96 99 ≤ 16 * W)
+    go true e = (omega arith, omega arith, omega arith)
+    go false e = (omega arith, omega arith, omega (arith, nleb→lt W 6 (rw e tt)))
+
+-- what is left of them behind the start, the name and the colon
+abbrev pub left : Scheme → ℕ
+left s = characters (words s) - (12 + length (label s))
+
+-- what is seen scheme by scheme: the words, the name, and that so many characters are enough
 pub record Measured (s : Scheme) : Type 0 where
   pub least-words : 6 ≤ words s
   pub most-words : words s ≤ 13
   pub least-name : 2 ≤ length (label s)
-  pub most-name : 12 + length (label s) ≤ 99
+  pub most-name : 12 + length (label s) ≤ 96
   pub parts : PartsWithin (about s .parts) (left s)
 
 pub measured : (s : Scheme) → Measured s
@@ -170,12 +200,20 @@ measured Gdti113 = omega arith
 measured Sgcn96 = omega arith
 measured Cpi96 = omega arith
 
-pub text-length : (t : List ℕ) (τ : Tag) → TagText t τ → length t ≤ 99
+-- so a text has at most 99 characters and 17, and for a scheme of six words 113
+text-within : (t : List ℕ) (τ : Tag) → TagText t τ → length t ≤ 17 + characters (words (τ .scheme))
 unfolding textOf start
-text-length t τ r =
+text-within t τ r =
     let s = τ .scheme in
-    let w = written-length (r .fits) (left s) (parts-within (about s .parts) (left s) (measured s .parts)) in
-    rw (r .text, length-append (label s)) (omega (arith, w, measured s .most-name))
+    let m = measured s in
+    let w = written-length (r .fits .parts) (left s) (parts-within (about s .parts) (left s) (m .parts)) in
+    rw (r .text, length-append (controlText (τ .control)), length-append (label s)) (omega (arith, w, m .most-name, control-length (τ .control), characters-few (words s) (m .least-words)))
+
+pub text-length : (t : List ℕ) (τ : Tag) → TagText t τ → length t ≤ 116
+text-length t τ r = let s = τ .scheme in omega (arith, text-within t τ r, characters-few (words s) (measured s .least-words))
+
+pub text-of-words : (t : List ℕ) (τ : Tag) → TagText t τ → length t ≤ 17 + 16 * words (τ .scheme)
+text-of-words t τ r = let s = τ .scheme in omega (arith, text-within t τ r, characters-few (words s) (measured s .least-words))
 
 pub bank-size : (τ : Tag) → length (bankOf τ) ≤ 64
 bank-size τ = omega (arith, bank-length τ, sizes (τ .scheme) .few-words)
@@ -199,15 +237,15 @@ pub raw-length : (b : List ℕ) → length (rawText b) ≤ 145
 unfolding rawText
 raw-length b = raw-shape (16 * wordCount b) (afi b) (drop 2 (within b)) (omega (arith, at-lt b 0x10 5)) (search afi-length) (simp (length-drop, length-take) (omega (arith, at-lt b 0x10 5)))
 
-pub sizes-hold : (t b : List ℕ) (τ : Tag) → TagText t τ → (length t ≤ 99) × (length (bankOf τ) ≤ 64) × (length (rawText b) ≤ 145)
+pub sizes-hold : (t b : List ℕ) (τ : Tag) → TagText t τ → (length t ≤ 116) × (length (bankOf τ) ≤ 64) × (length (rawText b) ≤ 145)
 sizes-hold t b τ r = (text-length t τ r, bank-size τ, raw-length b)
 
--- a text of 99 characters that is taken, and a raw line of 145
+-- a text of 116 characters that is taken, and a raw line of 145
 abbrev pub longest-text : List ℕ
-longest-text = bytes "urn:epc:tag:sgtin-198:0.123456.1234567.%22%25%26%2F%3C%3E%3F%22%25%26%2F%3C%3E%3F%22%25%26%2F%3C%3E"
+longest-text = bytes "urn:epc:tag:[umi=1][att=xFF]:sgtin-198:0.123456.1234567.%22%25%26%2F%3C%3E%3F%22%25%26%2F%3C%3E%3F%22%25%26%2F%3C%3E"
 
-pub text-reached : (textNumber longest-text ≡ 0) × (length longest-text ≡ 99)
-unfolding textNumber tagOfText value start schemes rows tableA1 escaped
+pub text-reached : (textNumber longest-text ≡ 0) × (length longest-text ≡ 116)
+unfolding textNumber tagOfText valueIn value start schemes rows tableA1 escaped
 text-reached = (refl, refl)
 
 abbrev pub longest-raw : List ℕ

@@ -7,6 +7,9 @@ pub mod Spellings
 pub mod Rows
 pub mod Forms
 pub mod Reading
+pub mod Starts
+pub mod ControlTexts
+pub mod ControlReads
 pub mod TextReads
 pub mod Numbers
 pub mod Groups

@@ -12,8 +12,9 @@ use Rattle.rules.specs.declared.Body.the-variants.{Then, Zeros, E}
 use Rattle.rules.specs.declared.Parts.{Parts}
 use Rattle.rules.specs.declared.Parts.the-variants.{F, Integers}
 use Rattle.rules.specs.Schemes.{about}
-use Rattle.rules.specs.Conditions.{fromFilter, fromPrefix, fromReference, fromLast, Begins, PartAt, OfBank, FirstOne, LastAt, zerosFrom, textRules, rawRules, bankRules}
+use Rattle.rules.specs.Conditions.{fromFilter, fromPrefix, fromReference, fromLast, Begins, NameAt, PartAt, OfBank, FirstOne, LastAt, zerosFrom, textRules, rawRules, bankRules}
 use Rattle.rules.proofs.Answers.{OnePlace}
+use Rattle.rules.proofs.ControlReads.{one-control, one-fault}
 use Rattle.rules.proofs.TextReads.{of-text}
 use Rattle.rules.proofs.BankReads.{of-bank}
 
@@ -26,10 +27,13 @@ one-beginning t x p q h k = omega (arith, h .0, k .0, ap length (h .1), ap lengt
 one-part : (t : List ℕ) (from : Parts → List ℕ → List ℕ) (p q : ℕ) → PartAt t from p → PartAt t from q → p ≡ q
 one-part t from p q (s, v, e, h) k = one-beginning t (from (about s .parts) v) p q h (of-text t s v e (λ r u. Begins t (from r u) q) .1 k)
 
+one-name : (t : List ℕ) (p q : ℕ) → NameAt t p → NameAt t q → p ≡ q
+one-name t p q (c, u, h, b) (c′, u′, h′, b′) = let (_, e) = one-control t u u′ c c′ h h′ in one-beginning t u p q b (rw (← e) at b′)
+
 pub one-place-of-text : (t : List ℕ) → OnePlace (textRules t)
 unfolding textRules
 one-place-of-text t =
-    (fixed 0, (fixed 12, (one-part t fromFilter, (one-part t fromPrefix, (one-part t fromReference, (one-part t fromLast, (one-part t fromLast, tt)))))))
+    (fixed 0, (one-fault t, (one-name t, (one-part t fromFilter, (one-part t fromPrefix, (one-part t fromReference, (one-part t fromLast, (one-part t fromLast, tt))))))))
 
 -- of two first ones neither comes before the other
 one-first-one : (b : List ℕ) (n p q : ℕ) → FirstOne b n p → FirstOne b n q → p ≡ q
@@ -63,7 +67,7 @@ one-place-of-bank b = (
     (
       fixed 0x17,
       (
-        fixed 0x15,
+        fixed 0x16,
         (
           fixed 0x20,
           (

@@ -1,24 +1,25 @@
--- Every place is small, whatever the length of what is read: an offset is at most 99, since the parts before it fit, and an address is one of
--- at most 31 words.
+-- Every place is small, whatever the length of what is read: an offset is at most 116, since what stands before it fits, and an address is one
+-- of at most 31 words.
 use Prim.Native.Nat.{ℕ, suc, _+_, _-_, _*_, _^_, _≤_, _<_}
 use mathlib.Core.Path.{_≡_, refl, ap}
 use mathlib.Core.Logic.{_⊎_, inl, inr}
 use mathlib.Core.List.{List, [], _∷_}
 use mathlib.Core.Option.{Option, none, some}
-use mathlib.Core.Bool.{Bool, true, false}
+use mathlib.Core.Bool.{Bool, true, false, cond}
 use native.Mathlib.Omega.{arith}
 use lib.Dec.{leb, lit≤}
 use lib.ListN.{length}
 use Rattle.rules.specs.Answers.{Answer, refused, taken, _>>=_, _>>_, demand, given, placeOf}
-use Rattle.rules.specs.Bytes.{upto, behind, dot}
+use Rattle.rules.specs.Bytes.{upto, behind, dot, colon}
 use Rattle.rules.specs.declared.Last.the-variants.{Integer, String, Numeric}
 use Rattle.rules.specs.declared.Body.the-variants.{Then, Zeros, E}
 use Rattle.rules.specs.declared.Parts.{Parts}
 use Rattle.rules.specs.declared.Parts.the-variants.{F, Integers}
-use Rattle.rules.specs.Schemes.{Form, schemes, about}
+use Rattle.rules.specs.Schemes.{Form, schemes, about, words}
+use Rattle.rules.specs.ControlFields.{fieldsText, noFields}
 use Rattle.rules.specs.Grammar.{Layout, part, end, layout, start, label, textOf}
 use Rattle.rules.specs.Coding.{wordCount, bankOf}
-use Rattle.rules.specs.TextNumbers.{after, named, numberAt, partIn, lastIn, partsIn, tagOfText, textPlace}
+use Rattle.rules.specs.TextNumbers.{after, Controlled, bracketed, opens, controlFieldsIn, named, numberAt, partIn, lastIn, partsIn, tagOfText, textPlace}
 use Rattle.rules.specs.BankNumbers.{tagOfBank, bankPlace}
 use Rattle.rules.specs.Raw.{rawOfBank}
 use Rattle.rules.specs.Calls.{call, lent, bankRoom, textRoom, textToBank, bankToText, rawLine}
@@ -27,8 +28,9 @@ use Rattle.rules.proofs.Answers.{Settled, first-of}
 use Rattle.rules.proofs.Rows.{narrow-row}
 use Rattle.rules.proofs.Codes.{sizes}
 use Rattle.rules.proofs.Reading.{PartIs, part-settled, LastIs, lastRules, last-reads, some-number}
+use Rattle.rules.proofs.ControlReads.{behindBoth, fields}
 use Rattle.rules.proofs.BankReads.{at-lt, bank-reads, raw-reads}
-use Rattle.rules.proofs.Lengths.{longest, part-length, Within, parts-within, left, measured}
+use Rattle.rules.proofs.Lengths.{longest, part-length, Within, parts-within, fields-length, characters-few, left, measured}
 
 -- One reader after the other.
 placed : {X Y : Type 0} (m : ℕ) (a : Answer X) (go : X → Answer Y) → placeOf a ≤ m → ((x : X) → a ≡ taken x → placeOf (go x) ≤ m) → placeOf (a >>= go) ≤ m
@@ -79,15 +81,38 @@ parts-placed (part r f k) m i t w =
     (omega (arith, a, ap length run, part-length f p (w .0) fit, parts-placed (k p) (m - suc (longest f p)) j (behind dot t) rest)) λ ps _.
     omega arith
 
-pub text-place : (t : List ℕ) → textPlace t ≤ 99
+-- The control fields: 20 is refused behind 16 characters at most, and the name begins behind 17.
+abbrev Near : Answer Controlled → Type 0
+Near (refused n p) = p ≤ 28
+Near (taken k) = k .next ≤ 29
+
+control-near : (u : List ℕ) → Near (controlFieldsIn 12 u)
+control-near u = go (opens u)
+  where
+    colons : (o : Option (List ℕ)) → Near (given o 20 (12 + length (fieldsText (fields u))) >>= λ v. taken (record { control = fields u; next = 12 + length (fieldsText (fields u)) + 1; rest = v }))
+    colons none = omega (arith, fields-length (fields u))
+    colons (some v) = omega (arith, fields-length (fields u))
+
+    go : (b : Bool) → Near (cond b (bracketed 12 u) (taken (record { control = noFields; next = 12; rest = u })))
+    go true = colons (after (colon ∷ []) (behindBoth u))
+    go false = lit≤ tt
+
+near-place : (a : Answer Controlled) → Near a → placeOf a ≤ 116
+near-place (refused n p) h = omega arith
+near-place (taken k) h = omega arith
+
+pub text-place : (t : List ℕ) → textPlace t ≤ 116
 unfolding textPlace tagOfText start
 text-place t =
-    placed 99 (given (after start t) 2 0) _ (given-placed 99 (after start t) 2 0 (lit≤ tt)) λ u _.
-    placed 99 (given (named schemes u) 3 12) _ (given-placed 99 (named schemes u) 3 12 (lit≤ tt)) λ c _.
+    placed 116 (given (after start t) 2 0) _ (given-placed 116 (after start t) 2 0 (lit≤ tt)) λ u _.
+    placed 116 (controlFieldsIn 12 u) _ (near-place (controlFieldsIn 12 u) (control-near u)) λ k e.
+    let near : k .next ≤ 29 = rw e at (control-near u) in
+    placed 116 (given (named schemes (k .rest)) 3 (k .next)) _ (given-placed 116 (named schemes (k .rest)) 3 (k .next) (omega arith)) λ c _.
     let s = c .scheme in
     let m = measured s in
-    placed 99 (partsIn (12 + length (label s)) (layout s) (c .rest)) _
-    (omega (arith, m .most-name, parts-placed (layout s) (left s) (12 + length (label s)) (c .rest) (parts-within (about s .parts) (left s) (m .parts)))) λ ps _.
+    let i = k .next + length (label s) in
+    placed 116 (partsIn i (layout s) (c .rest)) _
+    (omega (arith, m .most-name, characters-few (words s) (m .least-words), parts-placed (layout s) (left s) i (c .rest) (parts-within (about s .parts) (left s) (m .parts)))) λ ps _.
     omega arith
 
 -- The addresses of a bank.
@@ -124,7 +149,7 @@ module _ (b : List ℕ) where
       (
         fixed 0x17 (lit≤ tt),
         (
-          fixed 0x15 (lit≤ tt),
+          fixed 0x16 (lit≤ tt),
           (
             fixed 0x20 (lit≤ tt),
             (
@@ -171,7 +196,7 @@ call-place room m out a h = go (leb room (length out))
 pub places-fit : (t b out : List ℕ) → (textToBank t out .place < 2 ^ 16) × (bankToText b out .place < 2 ^ 16) × (rawLine b out .place < 2 ^ 16)
 unfolding textToBank bankToText rawLine textPlace bankPlace
 places-fit t b out = (
-  omega (arith, call-place bankRoom 99 out (tagOfText t >>= λ τ. taken (bankOf τ)) (placed 99 (tagOfText t) (λ τ. taken (bankOf τ)) (text-place t) λ τ _. omega arith)),
+  omega (arith, call-place bankRoom 116 out (tagOfText t >>= λ τ. taken (bankOf τ)) (placed 116 (tagOfText t) (λ τ. taken (bankOf τ)) (text-place t) λ τ _. omega arith)),
   omega (arith, call-place textRoom 528 out (tagOfBank b >>= λ τ. taken (textOf τ)) (placed 528 (tagOfBank b) (λ τ. taken (textOf τ)) (bank-place b) λ τ _. omega arith)),
   omega (arith, call-place textRoom 528 out (rawOfBank b) (raw-place b)),
 )

@@ -1,17 +1,16 @@
 -- A text is refused by the first rule that applies; taken, it is the text of its tag, and of no other.
 use Prim.Native.Nat.{ℕ, _+_}
-use mathlib.Core.Path.{_≡_, refl, sym, _∙_, ap, ap₂}
+use mathlib.Core.Path.{_≡_, refl, sym, _∙_, ap}
 use mathlib.Core.Logic.{_↔_}
 use mathlib.Core.List.{List, [], _∷_, _++_}
 use mathlib.Core.Option.{Option, none, some}
-use mathlib.Core.Bool.{Bool, true, false, cond}
 use native.Mathlib.Omega.{arith}
-use lib.Dec.{T, eqb, eqb→eq, eqb-refl, lit<}
-use lib.ListN.{length, drop, length-append}
-use lib.Seq.{drop-at, drop-drop}
+use lib.Dec.{T, lit<}
+use lib.ListN.{length}
 use Rattle.rules.specs.Answers.{taken, given}
 use Rattle.rules.specs.Bytes.{dot}
 use Rattle.rules.specs.declared.Scheme.{Scheme}
+use Rattle.rules.specs.declared.ControlFields.{ControlFields}
 use Rattle.rules.specs.declared.Scheme.the-variants.{Sgtin96, Sgtin198, Sscc96, Sgln96, Sgln195, Grai96, Grai170, Giai96, Gsrn96, Gsrnp96, Gdti96, Gdti174, Gid96, Gdti113, Sgcn96, Cpi96}
 use Rattle.rules.specs.declared.Body.{Body}
 use Rattle.rules.specs.declared.Body.the-variants.{Then, Zeros, E}
@@ -19,16 +18,19 @@ use Rattle.rules.specs.declared.Parts.{Parts}
 use Rattle.rules.specs.declared.Parts.the-variants.{F, Integers}
 use Rattle.rules.specs.Schemes.{Form, company, digits, integer, string, atMost, numeric, rowOf, cell, schemes, about}
 use Rattle.rules.specs.Grammar.{Layout, part, end, laid, bodyLayout, layout, Fit, Fits, more, one, sized, spelled, written, Tag, start, label, textOf, TagText}
-use Rattle.rules.specs.TextNumbers.{after, Named, choose, named, partsIn, tagOfText}
-use Rattle.rules.specs.Conditions.{Rule, rule, Formed, TooLarge, NoFilter, NoPrefix, NoReference, OfLast, OfText, fromFilter, fromPrefix, fromReference, fromLast, Begins, PartAt, textRules}
+use Rattle.rules.specs.ControlFields.{controlText, bracket}
+use Rattle.rules.specs.TextNumbers.{after, controlFieldsIn, Named, choose, named, partsIn, tagOfText}
+use Rattle.rules.specs.Conditions.{Rule, rule, Formed, TooLarge, NoFilter, NoPrefix, NoReference, OfLast, OfText, fromFilter, fromPrefix, fromReference, fromLast, Begins, Starts, FaultAt, ControlledBy, NameAt, PartAt, textRules}
 use Rattle.rules.specs.Conditions.{Named as IsNamed}
 use Rattle.rules.proofs.Tests.{is-true}
-use Rattle.rules.proofs.Answers.{Gives, gives-map, Decides, decided, Reads, settled-given, step, reads-map, Covers, done, same, reads-covers}
+use Rattle.rules.proofs.Answers.{Gives, Decides, decided, Reads, settled-given, settled-where, step, reads-map, Covers, done, same, reads-covers}
 use Rattle.rules.proofs.Runs.{without, among-of, upto-of, behind-of}
 use Rattle.rules.proofs.Decimals.{no-dots}
 use Rattle.rules.proofs.Rows.{by-count}
 use Rattle.rules.proofs.Forms.{formed-at}
 use Rattle.rules.proofs.Reading.{partRules, parts-reads}
+use Rattle.rules.proofs.Starts.{after-is, after-of, Begun, after-decides, begins-behind}
+use Rattle.rules.proofs.ControlReads.{controlled-of, ControlIs, control-settled, one-control}
 
 -- What is right is given: the parts, if none but the last may hold a dot.
 abbrev Dotless : Form → Type 0
@@ -67,24 +69,6 @@ separable : (p : Parts) → Separable (laid p)
 separable (F body) = (tt, λ _. (tt, λ ds. body-separable body (length ds)))
 separable (Integers a b c) = (tt, λ _. (tt, λ _. tt))
 
--- The start.
-pub after-is : (s t : List ℕ) → Gives (λ u. t ≡ s ++ u) (after s t)
-after-is [] t = refl
-after-is (x ∷ s) [] = tt
-after-is (x ∷ s) (y ∷ t) = go (eqb x y) (eqb→eq x y) (after s t) (after-is s t)
-  where
-    go : (b : Bool) → (T b → x ≡ y) → (o : Option (List ℕ)) → Gives (λ u. t ≡ s ++ u) o → Gives (λ u. y ∷ t ≡ x ∷ s ++ u) (cond b o none)
-    go false e o h = tt
-    go true e none h = tt
-    go true e (some u) h = ap₂ _∷_ (sym (e tt)) h
-
-pub after-of : (s u : List ℕ) → after s (s ++ u) ≡ some u
-after-of [] u = refl
-after-of (x ∷ s) u = rw (is-true (eqb x x) (eqb-refl x), after-of s u)
-
-same-rest : (s u v : List ℕ) → s ++ u ≡ s ++ v → u ≡ v
-same-rest s u v e = cc (after-of s u, after-of s v, ap (after s) e)
-
 -- The name.
 pub named-is : (ss : List Scheme) (u : List ℕ) → Gives (λ c. u ≡ label (c .scheme) ++ c .rest) (named ss u)
 named-is [] u = tt
@@ -115,11 +99,22 @@ named-of Gdti113 v = refl
 named-of Sgcn96 v = refl
 named-of Cpi96 v = refl
 
+-- no name begins with a bracket
+no-name : (v : List ℕ) → named schemes (bracket ∷ v) ≡ none
+unfolding schemes
+no-name v = refl
+
+label-shut : (s : Scheme) (v : List ℕ) → ¬ (Starts bracket (label s ++ v))
+label-shut s v (w, e) = let z : _≡_ {A = ℕ} 0 1 = cc (no-name w, named-of s v, ap (named schemes) e) in omega arith
+
 -- The whole text.
+named-controlled : (t : List ℕ) (s : Scheme) (v : List ℕ) (n : IsNamed t s v) → ControlledBy t (n .0) (label s ++ v)
+named-controlled t s v (c, fits, e) = (fits, e, λ _. label-shut s v)
+
 module _ (t : List ℕ) (s : Scheme) (v : List ℕ) (e : IsNamed t s v) where
   one-name : (s′ : Scheme) (v′ : List ℕ) → IsNamed t s′ v′ → (s′ ≡ s) × (v′ ≡ v)
   one-name s′ v′ e′ =
-      let q = same-rest start (label s′ ++ v′) (label s ++ v) (sym e′ ∙ e) in
+      let (_, q) = one-control t (label s′ ++ v′) (label s ++ v) (e′ .0) (e .0) (named-controlled t s′ v′ e′) (named-controlled t s v e) in
       let r : _≡_ {A = Named} (record { scheme = s′; rest = v′ }) (record { scheme = s; rest = v }) = cc (named-of s′ v′, named-of s v, ap (named schemes) q) in
       (ap (λ c. c .scheme) r, ap (λ c. c .rest) r)
 
@@ -150,44 +145,50 @@ name-covers t s v e =
     at : (from : Parts → List ℕ → List ℕ) (p : ℕ) → Begins t (from (about s .parts) v) p → PartAt t from p
     at from p h = (s, v, e, h)
 
--- where the parts begin
-named-begins : (t : List ℕ) (s : Scheme) (v : List ℕ) → IsNamed t s v → Begins t v (length start + length (label s))
-named-begins t s v e =
-    let d : drop (length (label s)) (drop (length start) t) ≡ v = rw (e, drop-at start (label s ++ v) (length start) refl) (drop-at (label s) v (length (label s)) refl) in
-    (rw (e, length-append start (label s ++ v), length-append (label s) v) (omega arith), sym d ∙ drop-drop (length (label s)) (length start) t)
-
--- the first two rules
-abbrev Started : List ℕ → Type 0
-Started t = (u : List ℕ) × (t ≡ start ++ u)
-
+-- the name
 abbrev Listed : List ℕ → Type 0
 Listed t = (s : Scheme) × (v : List ℕ) × IsNamed t s v
 
-start-decided : (t : List ℕ) → Decides (¬ (Started t)) (λ u. t ≡ start ++ u) (after start t)
-start-decided t = decided (Started t) (λ u. t ≡ start ++ u) (after start t) (after-is start t) (λ u e. (u, e)) λ r. (r .0, rw (r .1) (after-of start (r .0)))
+abbrev NameIs : List ℕ → Named → Type 0
+NameIs u c = u ≡ label (c .scheme) ++ c .rest
 
-name-decided : (t u : List ℕ) → t ≡ start ++ u → Decides (¬ (Listed t)) (λ c. IsNamed t (c .scheme) (c .rest)) (named schemes u)
-name-decided t u e =
-    decided (Listed t) (λ c. IsNamed t (c .scheme) (c .rest)) (named schemes u)
-    (gives-map (λ c. u ≡ label (c .scheme) ++ c .rest) (λ c. IsNamed t (c .scheme) (c .rest)) (named schemes u) (named-is schemes u) λ c r. e ∙ ap (start ++_) r)
-    (λ c r. (c .scheme, c .rest, r)) λ r.
-    (record { scheme = r .0; rest = r .1 }, rw (same-rest start u (label (r .0) ++ r .1) (sym e ∙ r .2)) (named-of (r .0) (r .1)))
+-- behind its control fields the text is a name and v
+listed : (t : List ℕ) (c : ControlFields) (u : List ℕ) (n : Named) → ControlledBy t c u → NameIs u n → IsNamed t (n .scheme) (n .rest)
+listed t c u n h r = (c, h .0, h .1 ∙ ap (λ x. start ++ (controlText c ++ x)) r)
+
+name-decided : (t : List ℕ) (c : ControlFields) (u : List ℕ) → ControlledBy t c u → Decides (¬ (Listed t)) (NameIs u) (named schemes u)
+name-decided t c u h =
+    decided (Listed t) (NameIs u) (named schemes u) (named-is schemes u) (λ n r. (n .scheme, n .rest, listed t c u n h r)) λ r.
+    let (_, q) = one-control t u (label (r .0) ++ r .1) c (r .2 .0) h (named-controlled t (r .0) (r .1) (r .2)) in
+    (record { scheme = r .0; rest = r .1 }, rw q (named-of (r .0) (r .1)))
 
 pub tag-reads : (t : List ℕ) → Reads (textRules t) (TagText t) (tagOfText t)
-unfolding textRules tagOfText textOf start
+unfolding textRules tagOfText textOf
 tag-reads t =
-    step _ (TagText t) 2 (¬ (Started t)) (_≡ 0) _ (given (after start t) 2 0) _ (lit< tt) (settled-given 2 0 (¬ (Started t)) _ (after start t) (start-decided t)) λ u e.
-    step (nameRules t) (TagText t) 3 (¬ (Listed t)) (_≡ 12) _ (given (named schemes u) 3 12) _ (lit< tt) (settled-given 3 12 (¬ (Listed t)) _ (named schemes u) (name-decided t u e)) λ c e′.
+    step _ (TagText t) 2 (¬ (Begun start t)) (_≡ 0) _ (given (after start t) 2 0) _ (lit< tt) (settled-given 2 0 (¬ (Begun start t)) _ (after start t) (after-decides start t)) λ u e.
+    step _ (TagText t) 20 ((p : ℕ) × FaultAt t p) (FaultAt t) (ControlIs t u e) (controlFieldsIn (length start) u) _ (lit< tt) (control-settled t u e) λ k (h, b).
+    let a = given (named schemes (k .rest)) 3 (k .next) in
+    step (nameRules t) (TagText t) 3 (¬ (Listed t)) (NameAt t) (NameIs (k .rest)) a _ (lit< tt)
+    (settled-where 3 (k .next) (¬ (Listed t)) (NameAt t) (NameIs (k .rest)) a (k .control, k .rest, h, b) (settled-given 3 (k .next) (¬ (Listed t)) (NameIs (k .rest)) (named schemes (k .rest)) (name-decided t (k .control) (k .rest) h))) λ c r.
     let s = c .scheme in
     let v = c .rest in
-    let i = length start + length (label s) in
-    reads-map (nameRules t) _ (TagText t) (λ ps. record { scheme = s; parts = ps }) (partsIn i (layout s) v)
-    (reads-covers _ (partsIn i (layout s) v) (name-covers t s v e′) (parts-reads t (about s .parts) i v (named-begins t s v e′) .reads)) λ ps i.
-    record { fits = i .0; text = e′ ∙ ap (λ x. start ++ (label s ++ x)) (i .1) }
+    let n = listed t (k .control) (k .rest) c h r in
+    let i = k .next + length (label s) in
+    reads-map (nameRules t) _ (TagText t) (λ ps. record { scheme = s; control = k .control; parts = ps }) (partsIn i (layout s) v)
+    (reads-covers _ (partsIn i (layout s) v) (name-covers t s v n) (parts-reads t (about s .parts) i v (begins-behind t (label s) v (k .next) (rw (← r) b)) .reads)) λ ps q.
+    record { fits = record { parts = q .0; control = h .0 }; text = h .1 ∙ ap (λ x. start ++ (controlText (k .control) ++ x)) (r ∙ ap (label s ++_) (q .1)) }
 
 pub tag-of : (t : List ℕ) (τ : Tag) → TagText t τ → tagOfText t ≡ taken τ
 unfolding tagOfText textOf
 tag-of t τ r =
     let s = τ .scheme in
+    let c = τ .control in
     let u = written (layout s) (τ .parts) in
-    rw (r .text, after-of start (label s ++ u), named-of s u, parts-of (r .fits) (separable (about s .parts)) (length start + length (label s)))
+    let i = length start in
+    rw (
+      r .text,
+      after-of start (controlText c ++ (label s ++ u)),
+      controlled-of i c (label s ++ u) (r .fits .control) (λ _. label-shut s u),
+      named-of s u,
+      parts-of (r .fits .parts) (separable (about s .parts)) (i + length (controlText c) + length (label s)),
+    )

@@ -1,5 +1,5 @@
--- Bank to text: the number and the place of a bank (document 01, "Numbers given, and when": 9 to 19; document 02, C-12). A reader is told
--- at which address its bits begin.
+-- Bank to text: the number and the place of a bank (document 01, "Numbers given, and when": 9 to 19; document 02, C-12 and C-13). A reader
+-- is told at which address its bits begin.
 use Prim.Native.Nat.{ℕ, _+_, _-_, _*_, _/_, _^_}
 use mathlib.Core.List.{List, [], _∷_}
 use mathlib.Core.Option.{Option, none, some, Option·map}
@@ -10,6 +10,7 @@ use Rattle.numeral.specs.Numeral.{value, numeral, spread, gather, shortest}
 use Rattle.rules.specs.Answers.{Answer, taken, _>>=_, _>>_, demand, given, kept, numberOf, placeOf}
 use Rattle.rules.specs.Bytes.{all, upto}
 use Rattle.rules.specs.declared.Scheme.{Scheme}
+use Rattle.rules.specs.declared.ControlFields.{ControlFields}
 use Rattle.rules.specs.Schemes.{Form, company, digits, integer, string, atMost, numeric, schemes, about, words, zeroBits, rowAt, prefixBits, prefixDigits}
 use Rattle.rules.specs.Characters.{character}
 use Rattle.rules.specs.Grammar.{Layout, part, end, layout, Tag}
@@ -98,13 +99,17 @@ wordsIn b = do
   demand (ltb 0 W) 10 0x10
   taken W
 
--- 11 and 12: the same, if the other control bits are 0
+-- 11 and 12: the same, if the toggle and the XPC bit are 0
 abbrev pub controlIn : List ℕ → Answer ℕ
 controlIn b = do
   W ← wordsIn b
   demand (eqb (at b 0x17 1) 0) 11 0x17
-  demand (eqb (at b 0x15 2) 0 && eqb (at b 0x18 8) 0) 12 0x15
+  demand (eqb (at b 0x16 1) 0) 12 0x16
   taken W
+
+-- the other control bits are the control fields
+abbrev pub controlFields : List ℕ → ControlFields
+controlFields b = record { umi = at b 0x15 1; att = at b 0x18 8 }
 
 unfoldable pub tagOfBank : List ℕ → Answer Tag
 tagOfBank b = do
@@ -115,7 +120,7 @@ tagOfBank b = do
   let n = about s .bits - zeroBits (about s .parts)
   demand (allZero (drop n code)) 15 (0x20 + (n + length (upto 1 (drop n code))))
   ps ← fieldsIn 0x28 (layout s) (drop 8 code)
-  taken (record { scheme = s; parts = ps })
+  taken (record { scheme = s; control = controlFields b; parts = ps })
 
 unfoldable pub bankNumber : List ℕ → ℕ
 bankNumber b = numberOf (tagOfBank b)

@@ -1,12 +1,13 @@
--- The bank of a tag (document 01, "The bank"): its bits, most significant first, eight to a byte.
+-- The bank of a tag (document 01, "The bank"; document 02, C-13): its bits, most significant first, eight to a byte.
 use Prim.Native.Nat.{ℕ, _+_, _-_, _*_}
 use mathlib.Core.Path.{_≡_}
 use mathlib.Core.List.{List, [], _∷_, _++_}
 use lib.ListN.{length, take, drop, replicate}
 use Rattle.numeral.specs.Numeral.{value, numeral, spread, gather}
 use Rattle.rules.specs.declared.Scheme.{Scheme}
+use Rattle.rules.specs.declared.ControlFields.{ControlFields}
 use Rattle.rules.specs.Schemes.{Form, company, digits, integer, string, atMost, numeric, about, words, partition, rowOf, prefixBits}
-use Rattle.rules.specs.Grammar.{Layout, part, end, layout, Tag, Fits}
+use Rattle.rules.specs.Grammar.{Layout, part, end, layout, Tag, TagFits}
 
 abbrev pub binary : ℕ → ℕ → List ℕ
 binary n v = numeral 2 n v
@@ -33,16 +34,20 @@ coded (end r f) (p ∷ ps) = partBits f p
 abbrev pub codeOf : Scheme → List (List ℕ) → List ℕ
 codeOf s ps = filled (16 * words s) (binary 8 (about s .header) ++ coded (layout s) ps)
 
+-- 15h: umi; 16h and 17h: 0; 18h to 1Fh: att
+abbrev pub controlBits : ControlFields → List ℕ
+controlBits c = binary 1 (c .umi) ++ (replicate 2 0 ++ binary 8 (c .att))
+
 -- the word count, the other eleven control bits, the code
-abbrev pub bitsOf : Scheme → List (List ℕ) → List ℕ
-bitsOf s ps = binary 5 (words s) ++ (replicate 11 0 ++ codeOf s ps)
+abbrev pub bitsOf : Scheme → ControlFields → List (List ℕ) → List ℕ
+bitsOf s c ps = binary 5 (words s) ++ (controlBits c ++ codeOf s ps)
 
 -- the bytes of a bank of W words
 abbrev pub bankSize : ℕ → ℕ
 bankSize W = 2 + 2 * W
 
 unfoldable pub bankOf : Tag → List ℕ
-bankOf τ = gather 2 8 (bankSize (words (τ .scheme))) (bitsOf (τ .scheme) (τ .parts))
+bankOf τ = gather 2 8 (bankSize (words (τ .scheme))) (bitsOf (τ .scheme) (τ .control) (τ .parts))
 
 -- n bits of a bank from an address on; the lent bank starts at address 10h
 abbrev pub at : List ℕ → ℕ → ℕ → ℕ
@@ -55,7 +60,7 @@ wordCount b = at b 0x10 5
 abbrev pub within : List ℕ → List ℕ
 within b = take (bankSize (wordCount b)) b
 
--- b is the bank of the tag τ, whose parts keep the limits
+-- b is the bank of the tag τ, which keeps the limits
 pub record TagBank (b : List ℕ) (τ : Tag) : Type 0 where
-  pub fits : Fits (layout (τ .scheme)) (τ .parts)
+  pub fits : TagFits τ
   pub bank : within b ≡ bankOf τ

@@ -1,5 +1,5 @@
--- When each number applies, by itself and in the words of document 01 ("Numbers given, and when") and document 02 (C-11), and its place
--- (document 02, C-12), apart from the readers of TextNumbers and BankNumbers.
+-- When each number applies, by itself and in the words of document 01 ("Numbers given, and when") and document 02 (C-11 and C-13), and its
+-- place (document 02, C-12), apart from the readers of TextNumbers and BankNumbers.
 use Prim.Native.Nat.{ℕ, _+_, _-_, _*_, _/_, _^_, _≤_, _<_}
 use mathlib.Core.Path.{_≡_}
 use mathlib.Core.Logic.{_⊎_}
@@ -7,8 +7,9 @@ use mathlib.Core.List.{List, [], _∷_, _++_}
 use lib.Dec.{T}
 use lib.ListN.{length, drop}
 use Rattle.numeral.specs.Numeral.{value, Digits}
-use Rattle.rules.specs.Bytes.{all, among, upto, behind, dot, digitsText}
+use Rattle.rules.specs.Bytes.{all, among, upto, behind, dot, colon, digitsText}
 use Rattle.rules.specs.declared.Scheme.{Scheme}
+use Rattle.rules.specs.declared.ControlFields.{ControlFields}
 use Rattle.rules.specs.declared.Last.the-variants.{Integer, String, Numeric}
 use Rattle.rules.specs.declared.Body.{Body}
 use Rattle.rules.specs.declared.Body.the-variants.{Then, Zeros, E}
@@ -16,6 +17,7 @@ use Rattle.rules.specs.declared.Parts.{Parts}
 use Rattle.rules.specs.declared.Parts.the-variants.{F, Integers}
 use Rattle.rules.specs.Schemes.{Form, company, digits, integer, string, atMost, numeric, lastForm, Row, Cell, cell, rowDigits, assetBits, prefixBits, prefixDigits, rowAt, rowOf, about, words, zeroBits}
 use Rattle.rules.specs.Characters.{character, stringText}
+use Rattle.rules.specs.ControlFields.{ControlName, umi, att, most, fieldText, fieldsText, controlText, ControlFits, bracket}
 use Rattle.rules.specs.Grammar.{start, label}
 use Rattle.rules.specs.Coding.{at, wordCount}
 
@@ -34,6 +36,46 @@ First [] n p = (n ≡ 0) × (p ≡ 0)
 First (r ∷ rs) n p = (r .applies × (n ≡ r .number) × r .place p) ⊎ ((¬ (r .applies)) × First rs n p)
 
 -- TEXT TO BANK
+
+-- p is the offset in t at which x, an end of t, begins
+abbrev pub Begins : List ℕ → List ℕ → ℕ → Type 0
+Begins t x p = (p ≤ length t) × (x ≡ drop p t)
+
+-- u begins with the character x
+abbrev pub Starts : ℕ → List ℕ → Type 0
+Starts x u = (v : List ℕ) × (u ≡ x ∷ v)
+
+-- u begins with the control field f of the value v, zero too
+abbrev pub IsField : ControlName → ℕ → List ℕ → Type 0
+IsField f v u = (v ≤ most f) × (w : List ℕ) × (u ≡ fieldText f v ++ w)
+
+abbrev pub valueOf : ControlName → ControlFields → ℕ
+valueOf umi c = c .umi
+valueOf att c = c .att
+
+-- a control field at w, behind the fields of c, is malformed, out of order, repeated, unknown or zero
+pub data WrongField (c : ControlFields) (w : List ℕ) : Type 0 where
+  malformed-or-unknown : ¬ ((f : ControlName) × (v : ℕ) × IsField f v w) → WrongField c w
+  out-of-order : (v : ℕ) → IsField umi v w → 0 < c .att → WrongField c w
+  repeated : (f : ControlName) (v : ℕ) → IsField f v w → 0 < valueOf f c → WrongField c w
+  of-zero : (f : ControlName) → IsField f 0 w → WrongField c w
+
+-- the colon after the last of them is missing at w
+abbrev pub NoColon : ControlFields → List ℕ → Type 0
+NoColon c w = (0 < length (fieldsText c)) × (¬ (Starts bracket w)) × (¬ (Starts colon w))
+
+-- 20 and its place: behind the start and control fields that are right stands such a field, or no colon
+abbrev pub FaultAt : List ℕ → ℕ → Type 0
+FaultAt t p =
+    (c : ControlFields) × (w : List ℕ) × ControlFits c × (t ≡ start ++ (fieldsText c ++ w)) × ((Starts bracket w × WrongField c w) ⊎ NoColon c w) × Begins t w p
+
+-- t is the start, the control fields of c with their colon, and u; where no field stands, no bracket follows
+abbrev pub ControlledBy : List ℕ → ControlFields → List ℕ → Type 0
+ControlledBy t c u = ControlFits c × (t ≡ start ++ (controlText c ++ u)) × (fieldsText c ≡ [] → ¬ (Starts bracket u))
+
+-- the place of 3: where the name begins, or would begin
+abbrev pub NameAt : List ℕ → ℕ → Type 0
+NameAt t p = (c : ControlFields) × (u : List ℕ) × ControlledBy t c u × Begins t u p
 
 -- x is the digits ds, written in decimal
 abbrev pub Decimal : List ℕ → List ℕ → Type 0
@@ -70,9 +112,9 @@ TooLarge (numeric b n) x = (ds : List ℕ) × Decimal x ds × (n < length ds)
 abbrev pub Stands : Form → List ℕ → Type 0
 Stands f u = T (among dot u) × Formed f (upto dot u) × (¬ (TooLarge f (upto dot u)))
 
--- t is the start, a listed name, the colon, and u
+-- t is the start, control fields, a listed name, the colon, and u
 abbrev pub Named : List ℕ → Scheme → List ℕ → Type 0
-Named t s u = t ≡ start ++ (label s ++ u)
+Named t s u = (c : ControlFields) × ControlFits c × (t ≡ start ++ (controlText c ++ (label s ++ u)))
 
 abbrev pub OfText : List ℕ → (Parts → List ℕ → Type 0) → Type 0
 OfText t Q = (s : Scheme) × (u : List ℕ) × Named t s u × Q (about s .parts) u
@@ -133,10 +175,6 @@ abbrev pub fromLast : Parts → List ℕ → List ℕ
 fromLast (F body) u = fromEnd body (fromReference (F body) u)
 fromLast (Integers a b c) u = behind dot (fromReference (Integers a b c) u)
 
--- p is the offset in t at which x, an end of t, begins
-abbrev pub Begins : List ℕ → List ℕ → ℕ → Type 0
-Begins t x p = (p ≤ length t) × (x ≡ drop p t)
-
 -- p is the offset of the first character of a part: where it begins, or would begin
 abbrev pub PartAt : List ℕ → (Parts → List ℕ → List ℕ) → ℕ → Type 0
 PartAt t from p = OfText t λ q u. Begins t (from q u) p
@@ -145,8 +183,10 @@ unfoldable pub textRules : List ℕ → List Rule
 textRules t =
     -- doesn't begin with `urn:epc:tag:`
     rule 2 (¬ ((u : List ℕ) × (t ≡ start ++ u))) (_≡ 0) ∷
+    -- `[` follows, and a control field is wrong, or the colon after the last is missing
+    rule 20 ((p : ℕ) × FaultAt t p) (FaultAt t) ∷
     -- what follows is not a listed name and a colon
-    rule 3 (¬ ((s : Scheme) × (u : List ℕ) × Named t s u)) (_≡ 12) ∷
+    rule 3 (¬ ((s : Scheme) × (u : List ℕ) × Named t s u)) (NameAt t) ∷
     rule 4 (OfText t NoFilter) (PartAt t fromFilter) ∷
     rule 5 (OfText t NoPrefix) (PartAt t fromPrefix) ∷
     rule 6 (OfText t NoReference) (PartAt t fromReference) ∷
@@ -242,8 +282,8 @@ bankRules b =
     rawRules b ++
     -- toggle is 1
     (rule 11 (at b 0x17 1 ≡ 1) (_≡ 0x17) ∷
-    -- bits 15h, 16h or 18h to 1Fh not all 0
-    rule 12 (¬ ((at b 0x15 1 ≡ 0) × (at b 0x16 1 ≡ 0) × (at b 0x18 8 ≡ 0))) (_≡ 0x15) ∷
+    -- bit 16h is 1
+    rule 12 (at b 0x16 1 ≡ 1) (_≡ 0x16) ∷
     -- header not in the table
     rule 13 (¬ ((s : Scheme) × (at b 0x20 8 ≡ about s .header))) (_≡ 0x20) ∷
     -- W differs from the scheme's word count

@@ -1,4 +1,5 @@
--- The text of a tag (document 01, "The text of a tag"). No reader is mentioned: a tag is its scheme and its parts, and has one text.
+-- The text of a tag (document 01, "The text of a tag"; document 02, C-13). No reader is mentioned: a tag is its scheme, its control fields and
+-- its parts, and has one text.
 use Prim.Native.Nat.{ℕ, _/_, _^_}
 use mathlib.Core.Path.{_≡_}
 use mathlib.Core.List.{List, [], _∷_, _++_}
@@ -8,12 +9,14 @@ use lib.ListN.{length}
 use Rattle.numeral.specs.Numeral.{value}
 use Rattle.rules.specs.Bytes.{bytes, all, dot, colon, digitsText}
 use Rattle.rules.specs.declared.Scheme.{Scheme}
+use Rattle.rules.specs.declared.ControlFields.{ControlFields}
 use Rattle.rules.specs.declared.Body.{Body}
 use Rattle.rules.specs.declared.Body.the-variants.{Then, Zeros, E}
 use Rattle.rules.specs.declared.Parts.{Parts}
 use Rattle.rules.specs.declared.Parts.the-variants.{F, Integers}
 use Rattle.rules.specs.Schemes.{Form, company, digits, integer, string, atMost, numeric, rowDigits, assetBits, rowOf, lastForm, about}
 use Rattle.rules.specs.Characters.{character, stringText}
+use Rattle.rules.specs.ControlFields.{ControlFits, controlText}
 
 -- What a part is in its tag. The first two integers of gid-96 stand where others have the prefix and the reference.
 pub data Role : Type 0 where
@@ -88,7 +91,13 @@ pub data Fits : Layout → List (List ℕ) → Type 0 where
 
 pub record Tag : Type 0 where
   pub scheme : Scheme
+  pub control : ControlFields
   pub parts : List (List ℕ)
+
+-- its parts fit its scheme's layout, and its control fields keep their limits
+pub record TagFits (τ : Tag) : Type 0 where
+  pub parts : Fits (layout (τ .scheme)) (τ .parts)
+  pub control : ControlFits (τ .control)
 
 -- How it is written.
 abbrev pub spelled : Form → List ℕ → List ℕ
@@ -114,9 +123,9 @@ abbrev pub label : Scheme → List ℕ
 label s = bytes (about s .name) ++ colon ∷ []
 
 unfoldable pub textOf : Tag → List ℕ
-textOf τ = start ++ (label (τ .scheme) ++ written (layout (τ .scheme)) (τ .parts))
+textOf τ = start ++ (controlText (τ .control) ++ (label (τ .scheme) ++ written (layout (τ .scheme)) (τ .parts)))
 
--- t is the text of the tag τ, whose parts keep the limits
+-- t is the text of the tag τ, which keeps the limits
 pub record TagText (t : List ℕ) (τ : Tag) : Type 0 where
-  pub fits : Fits (layout (τ .scheme)) (τ .parts)
+  pub fits : TagFits τ
   pub text : t ≡ textOf τ

@@ -1,4 +1,4 @@
--- What documents 01 and 02 (C-12) promise of each public call, in their words; Calls has the one answer that keeps it (proofs/OneAnswer).
+-- What documents 01 and 02 (C-12, C-13) promise of each public call, in their words; Calls has the one answer that keeps it (proofs/OneAnswer).
 use Prim.Native.Nat.{ℕ, _≤_, _<_}
 use mathlib.Core.Path.{_≡_}
 use mathlib.Core.Logic.{_⊎_}

@@ -1,17 +1,19 @@
--- Text to bank: the number and the place of a text, read left to right (document 01, "Numbers given, and when": 2 to 8; document 02, C-12).
--- A reader is told at which offset of the text it begins.
-use Prim.Native.Nat.{ℕ, _+_, _-_, _/_, _%_}
+-- Text to bank: the number and the place of a text, read left to right (document 01, "Numbers given, and when": 2 to 8; document 02, C-12
+-- and C-13). A reader is told at which offset of the text it begins.
+use Prim.Native.Nat.{ℕ, zero, suc, _+_, _-_, _/_, _%_}
 use Prim.Native.Char.{code}
 use mathlib.Core.List.{List, [], _∷_}
 use mathlib.Core.Option.{Option, none, some, Option·map}
-use mathlib.Core.Bool.{Bool, _&&_, cond}
+use mathlib.Core.Bool.{Bool, false, _&&_, cond}
 use lib.Dec.{leb, eqb}
 use lib.ListN.{length}
 use Rattle.rules.specs.Answers.{Answer, taken, _>>=_, _>>_, demand, given, kept, numberOf, placeOf}
-use Rattle.rules.specs.Bytes.{among, upto, behind, dot, percent, hexDigit}
+use Rattle.rules.specs.Bytes.{among, upto, behind, dot, colon, percent, hexDigit}
 use Rattle.rules.specs.declared.Scheme.{Scheme}
+use Rattle.rules.specs.declared.ControlFields.{ControlFields}
 use Rattle.rules.specs.Schemes.{Form, company, digits, integer, string, atMost, numeric, schemes}
 use Rattle.rules.specs.Characters.{escaped, plain}
+use Rattle.rules.specs.ControlFields.{ControlName, umi, att, most, fieldText, fieldsText, noFields, bracket}
 use Rattle.rules.specs.Grammar.{Role, filter, prefix, reference, last, Layout, part, end, layout, shaped, sized, Tag, start, label}
 
 -- the text behind s, if t begins with s
@@ -19,6 +21,47 @@ abbrev pub after : List ℕ → List ℕ → Option (List ℕ)
 after [] t = some t
 after (x ∷ s) [] = none
 after (x ∷ s) (y ∷ t) = let r = after s t in cond (eqb x y) r none
+
+-- a control field's value, and the text behind it
+pub record Valued : Type 0 where
+  pub value : ℕ
+  pub rest : List ℕ
+
+abbrev pub either : ℕ → Option (List ℕ) → Valued → Valued
+either v none o = o
+either v (some r) o = record { value = v; rest = r }
+
+-- the value, at most n and not zero, whose field u begins with; 0 if there is none
+abbrev pub valued : ControlName → ℕ → List ℕ → Valued
+valued f zero u = record { value = 0; rest = u }
+valued f (suc n) u = either (suc n) (after (fieldText f (suc n)) u) (valued f n u)
+
+unfoldable pub valueIn : ControlName → List ℕ → Valued
+valueIn f u = valued f (most f) u
+
+-- control fields, the offset behind their colon, and the text from there on
+pub record Controlled : Type 0 where
+  pub control : ControlFields
+  pub next : ℕ
+  pub rest : List ℕ
+
+-- 20: the fields that stand from offset i on, in their order, then a colon
+abbrev pub bracketed : ℕ → List ℕ → Answer Controlled
+bracketed i u = do
+  let m = valueIn umi u
+  let a = valueIn att (m .rest)
+  let c : ControlFields = record { umi = m .value; att = a .value }
+  let j = i + length (fieldsText c)
+  v ← given (after (colon ∷ []) (a .rest)) 20 j
+  taken (record { control = c; next = j + 1; rest = v })
+
+-- if a bracket follows
+abbrev pub opens : List ℕ → Bool
+opens [] = false
+opens (x ∷ xs) = eqb x bracket
+
+abbrev pub controlFieldsIn : ℕ → List ℕ → Answer Controlled
+controlFieldsIn i u = let b = bracketed i u in cond (opens u) b (taken (record { control = noFields; next = i; rest = u }))
 
 -- the scheme whose name and colon u begins with, and the text behind them
 pub record Named : Type 0 where
@@ -107,13 +150,19 @@ partsIn i (end r f) t = do
   p ← lastIn (numberAt r) i f t
   taken (p ∷ [])
 
--- 2: the start; 3: a listed name and a colon; then the parts
+-- 3: a listed name and a colon; then the parts
+abbrev pub namedTag : Controlled → Answer Tag
+namedTag k = do
+  c ← given (named schemes (k .rest)) 3 (k .next)
+  ps ← partsIn (k .next + length (label (c .scheme))) (layout (c .scheme)) (c .rest)
+  taken (record { scheme = c .scheme; control = k .control; parts = ps })
+
+-- 2: the start; 20: the control fields; then the rest
 unfoldable pub tagOfText : List ℕ → Answer Tag
 tagOfText t = do
   u ← given (after start t) 2 0
-  c ← given (named schemes u) 3 (length start)
-  ps ← partsIn (length start + length (label (c .scheme))) (layout (c .scheme)) (c .rest)
-  taken (record { scheme = c .scheme; parts = ps })
+  k ← controlFieldsIn (length start) u
+  namedTag k
 
 unfoldable pub textNumber : List ℕ → ℕ
 textNumber t = numberOf (tagOfText t)

@@ -21,6 +21,12 @@ pub enum Scheme {
     Cpi96,
 }
 
+// The control fields of a text, which are bits of the control word: the user memory bit and the attribute bits (document 02, C-13).
+pub struct ControlFields {
+    pub umi: u8,
+    pub att: u8,
+}
+
 // The most characters that a string has: 140 bits, seven each.
 pub const MOST_CHARACTERS: usize = 20;
 

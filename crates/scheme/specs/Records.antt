@@ -1,4 +1,4 @@
--- The record of a tag, from its parts.
+-- The record of a tag, from its control fields and its parts.
 use Prim.Native.Nat.{ℕ}
 use mathlib.Core.Path.{_≡_}
 use mathlib.Core.List.{List, [], _++_}
@@ -12,7 +12,8 @@ use Rattle.rules.specs.declared.Parts.{Parts}
 use Rattle.rules.specs.declared.Parts.the-variants.{F, Integers}
 use Rattle.rules.specs.Schemes.{about}
 use Rattle.rules.specs.Answers.{Answer, refused, taken}
-use Rattle.rules.specs.Grammar.{Tag, Fits, layout}
+use Rattle.rules.specs.ControlFields.{noFields}
+use Rattle.rules.specs.Grammar.{Tag, TagFits}
 use Rattle.scheme.specs.declared.record.Record.{Record}
 use Rattle.scheme.specs.declared.record.Reading.{Reading}
 
@@ -87,6 +88,7 @@ recordOf τ =
     let ps = τ .parts in
     record {
       scheme = τ .scheme;
+      control = τ .control;
       filter = filterOf p ps;
       prefix = prefixOf p ps;
       digits = digitsOf p ps;
@@ -96,9 +98,9 @@ recordOf τ =
       count = countOf p ps;
     }
 
--- r is the record of the tag τ, whose parts keep the limits
+-- r is the record of the tag τ, which keeps the limits
 pub record RecordIs (r : Record) (τ : Tag) : Type 0 where
-  pub fits : Fits (layout (τ .scheme)) (τ .parts)
+  pub fits : TagFits τ
   pub same : r ≡ recordOf τ
 
 -- r is the record of a tag
@@ -114,6 +116,7 @@ Writes form r out n after = (τ : Tag) → RecordIs r τ → (n ≡ length (form
 abbrev pub blank : Record
 blank = record {
   scheme = Sgtin96;
+  control = noFields;
   filter = 0;
   prefix = 0;
   digits = 0;

@@ -1,5 +1,6 @@
 // The record of a tag: what its text and its bank both say, by value.
 use super::counts::CodeBit;
+use rules::ControlFields;
 use rules::MOST_CHARACTERS;
 use rules::Scheme;
 ghost use mathlib.Core.Path.{_≡_};
@@ -12,6 +13,7 @@ ghost use Rattle.scheme.specs.Records.{refusal};
 // how many digits a numeric string, whose value is the serial.
 pub struct Record {
     pub scheme: Scheme,
+    pub control: ControlFields,
     pub filter: u64,
     pub prefix: u64,
     pub digits: usize,
@@ -38,6 +40,7 @@ pub fn refused(number: u8, place: usize) -> Reading
         place,
         tag: Record {
             scheme: Scheme::Sgtin96,
+            control: ControlFields { umi: 0, att: 0 },
             filter: 0,
             prefix: 0,
             digits: 0,

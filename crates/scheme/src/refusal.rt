@@ -1,8 +1,11 @@
-// The numbers that document 01 gives to refusals ("Numbers given, and when"), by name. Its table says when each is given.
+// The numbers that documents 01 ("Numbers given, and when") and 02 give to refusals, by name. Their tables and words say when each is given.
 pub const OUTPUT_TOO_SHORT: u8 = 1;
 
 // Text to bank.
 pub const START: u8 = 2;
+
+// Looked at between 2 and 3 (document 02, C-13).
+pub const CONTROL_FIELDS: u8 = 20;
 
 pub const NAME: u8 = 3;
 

@@ -4,4 +4,5 @@ pub mod Found
 pub mod Lasts
 pub mod Whole
 pub mod Rooms
+pub mod Fields
 pub mod Written

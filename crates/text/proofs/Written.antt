@@ -17,6 +17,7 @@ use Rattle.rules.specs.declared.Body.the-variants.{Then, Zeros, E}
 use Rattle.rules.specs.declared.Parts.{Parts}
 use Rattle.rules.specs.declared.Parts.the-variants.{F, Integers}
 use Rattle.rules.specs.Schemes.{digits, integer, atMost, exact, counted, assetBits, rowOf, cell, about}
+use Rattle.rules.specs.ControlFields.{controlText, ControlFits}
 use Rattle.rules.specs.Grammar.{plainNumber, spelled, Tag, textOf, start, label, written, layout, Fit, Fits}
 use Rattle.rules.proofs.Tests.{both}
 use Rattle.rules.proofs.Decimals.{all-digits}
@@ -117,15 +118,28 @@ module _ (r : Record) (τ : Tag) (h : RecordIs r τ) (p : Parts) (e : about (r .
   right : (written (layout (τ .scheme)) (τ .parts) ≡ partsText p r) × Small p r
   right =
       let f : about (τ .scheme) .parts ≡ p = ap (λ s. about s .parts) (sym same-scheme) ∙ e in
-      rw (h .same) (by-values τ p f (rw f at (parts-narrow (τ .scheme))) (h .fits))
+      rw (h .same) (by-values τ p f (rw f at (parts-narrow (τ .scheme))) (h .fits .parts))
 
-  text-is : textOf τ ≡ (start ++ label (r .scheme)) ++ partsText p r
+  same-control : r .control ≡ τ .control
+  unfolding recordOf
+  same-control = ap (λ x. x .control) (h .same)
+
+  text-is : textOf τ ≡ (start ++ (controlText (r .control) ++ label (r .scheme))) ++ partsText p r
   unfolding textOf
   text-is =
-      rw (right .0) (sym (append-assoc start (label (τ .scheme)) (partsText p r)) ∙ ap (λ s. (start ++ label s) ++ partsText p r) (sym same-scheme))
+      let c = controlText (τ .control) in
+      let l = label (τ .scheme) in
+      let x = partsText p r in
+      rw (right .0)
+      (ap (start ++_) (sym (append-assoc c l x)) ∙ sym (append-assoc start (c ++ l) x)
+      ∙ ap (λ k. (start ++ (controlText k ++ l)) ++ x) (sym same-control) ∙ ap (λ s. (start ++ (controlText (r .control) ++ label s)) ++ x) (sym same-scheme))
 
 pub small : (r : Record) (p : Parts) → HasTag r → about (r .scheme) .parts ≡ p → Small p r
 small r p t e = right r (t .tag) (t .is) p e .1
 
-pub writes : (r : Record) (p : Parts) {s t : List ℕ} {n : ℕ} → about (r .scheme) .parts ≡ p → Puts ((start ++ label (r .scheme)) ++ partsText p r) 0 s n t → Writes textOf r s n t
+pub control-fits : (r : Record) → HasTag r → ControlFits (r .control)
+unfolding recordOf
+control-fits r t = rw (ap (λ x. x .control) (t .is .same)) (t .is .fits .control)
+
+pub writes : (r : Record) (p : Parts) {s t : List ℕ} {n : ℕ} → about (r .scheme) .parts ≡ p → Puts ((start ++ (controlText (r .control) ++ label (r .scheme))) ++ partsText p r) 0 s n t → Writes textOf r s n t
 writes r p e h τ i = from-start (rw (← text-is r τ i p e) at h)

@@ -2,12 +2,14 @@
 use Prim.Native.Nat.{ℕ}
 use mathlib.Core.List.{List, []}
 use Rattle.rules.specs.declared.Scheme.{Scheme}
+use Rattle.rules.specs.declared.ControlFields.{ControlFields}
 use Rattle.rules.specs.declared.Last.{Last}
 use Rattle.rules.specs.declared.Body.{Body}
 use Rattle.rules.specs.declared.Body.the-variants.{Then, Zeros, E}
 use Rattle.rules.specs.Answers.{Answer, refused, taken, _>>=_}
 use Rattle.rules.specs.Schemes.{Form}
 use Rattle.rules.specs.Grammar.{reference, last, Layout, part, end}
+use Rattle.rules.specs.TextNumbers.{Controlled}
 use Rattle.scheme.specs.declared.record.Reading.{Reading}
 use Rattle.scheme.specs.Records.{partAt, valueAt, lastNumber, lastCharacters, lastCount, padded, refusal, readingOf}
 use Rattle.parts.specs.declared.parts.End.{End}
@@ -21,6 +23,7 @@ taggedWith h r n cs k = record {
   place = 0;
   tag = record {
     scheme = h .scheme;
+    control = h .control;
     filter = h .filter;
     prefix = h .prefix;
     digits = h .digits;
@@ -62,6 +65,10 @@ behindPrefix h (Then t l) = withLast h l
 behindPrefix h (Zeros t z) = referenceAlone h
 behindPrefix h E = assetAlone h
 
--- what the parts of a scheme give
-abbrev pub readAs : Scheme → Answer (List (List ℕ)) → Reading
-readAs s a = readingOf (a >>= λ ps. taken (record { scheme = s; parts = ps }))
+-- what the parts of a scheme give, behind control fields
+abbrev pub readAs : ControlFields → Scheme → Answer (List (List ℕ)) → Reading
+readAs c s a = readingOf (a >>= λ ps. taken (record { scheme = s; control = c; parts = ps }))
+
+-- the text behind control fields, from an offset on
+abbrev pub controlled : ControlFields → ℕ → List ℕ → Controlled
+controlled c i u = record { control = c; next = i; rest = u }

@@ -1,15 +1,18 @@
-// A text to the record of its tag, read left to right (document 01, "Numbers given, and when": 2 to 8), with the place of a refusal: each
-// reader says where it began (document 02, C-12).
+// A text to the record of its tag, read left to right (document 01, "Numbers given, and when": 2 to 8; document 02, C-13: 20), with the
+// place of a refusal: each reader says where it began (C-12).
+use parts::Controlled;
 use parts::End;
 use parts::Form;
 use parts::Named;
 use parts::Part;
+use parts::control_at;
 use parts::digits_to_end;
 use parts::integer_to_end;
 use parts::name;
 use parts::numeric_to_end;
 use parts::part_at;
 use rules::Body;
+use rules::ControlFields;
 use rules::Last;
 use rules::MOST_CHARACTERS;
 use rules::Parts;
@@ -26,12 +29,12 @@ ghost use Prim.Native.Nat.{_≤_};
 ghost use lib.ListN.{length, drop};
 ghost use Rattle.rules.specs.Schemes.{digits, integer, string, numeric, counted, rowOf, cell, about as aboutOf};
 ghost use Rattle.rules.specs.Grammar.{reference as referenceRole, last, end, bodyLayout, layout, start};
-ghost use Rattle.rules.specs.TextNumbers.{after, partsIn, tagOfText};
+ghost use Rattle.rules.specs.TextNumbers.{after, partsIn, namedTag, tagOfText};
 ghost use Rattle.scheme.specs.Outlines.{Narrow};
 ghost use Rattle.scheme.specs.Records.{readingOf};
 ghost use Rattle.digits.specs.Starts.{begun};
 ghost use Rattle.parts.specs.Parts.{formOf, Short};
-ghost use Rattle.text.specs.Reading.{taggedWith, endedBy, referred, withLast, referenceAlone, assetAlone, behindPrefix, readAs};
+ghost use Rattle.text.specs.Reading.{taggedWith, endedBy, referred, withLast, referenceAlone, assetAlone, behindPrefix, readAs, controlled};
 
 // How many characters `urn:epc:tag:` has.
 const START: usize = 12;
@@ -46,6 +49,7 @@ fn begins(text: &[u8]) -> bool
 // What stands before the reference. For gid-96 `prefix` is its first integer, and `filter` and `digits` are 0.
 struct Head {
     scheme: Scheme,
+    control: ControlFields,
     filter: u64,
     prefix: u64,
     digits: usize,
@@ -61,11 +65,13 @@ fn tagged(
     ensures { λ r. ⌜ r ≡ taggedWith head reference serial characters count ⌝ }
 {
     let scheme = head.scheme;
+    let control = head.control;
     Reading {
         number: 0,
         place: 0,
         tag: Record {
             scheme,
+            control,
             filter: head.filter,
             prefix: head.prefix,
             digits: head.digits,
@@ -194,14 +200,23 @@ fn behind_prefix(text: &[u8], at: usize, head: Head, body: Body) -> Reading
 }
 
 // gid-96: three integers.
-fn general(text: &[u8], at: usize, s: Scheme, a: usize, b: usize, c: usize) -> Reading
+fn general(
+    text: &[u8],
+    at: usize,
+    control: ControlFields,
+    s: Scheme,
+    a: usize,
+    b: usize,
+    c: usize,
+) -> Reading
     requires { ⌜ (at ≤ length (now text)) × (aboutOf s .parts ≡ Parts.Integers a b c) ⌝ }
-    ensures { λ r. ⌜ r ≡ readAs s (partsIn at (layout s) (drop at (now (text .entry)))) ⌝ }
+    ensures { λ r. ⌜ r ≡ readAs control s (partsIn at (layout s) (drop at (now (text .entry)))) ⌝ }
 {
     match part_at(text, at, Form::Integer(a)) {
         Part::Is(prefix, _, next) => {
             let head = Head {
                 scheme: s,
+                control,
                 filter: 0,
                 prefix,
                 digits: 0,
@@ -213,15 +228,16 @@ fn general(text: &[u8], at: usize, s: Scheme, a: usize, b: usize, c: usize) -> R
 }
 
 // The other schemes: the filter, the company prefix, and what follows it.
-fn partitioned(text: &[u8], at: usize, s: Scheme, body: Body) -> Reading
+fn partitioned(text: &[u8], at: usize, control: ControlFields, s: Scheme, body: Body) -> Reading
     requires { ⌜ (at ≤ length (now text)) × (aboutOf s .parts ≡ Parts.F body) ⌝ }
-    ensures { λ r. ⌜ r ≡ readAs s (partsIn at (layout s) (drop at (now (text .entry)))) ⌝ }
+    ensures { λ r. ⌜ r ≡ readAs control s (partsIn at (layout s) (drop at (now (text .entry)))) ⌝ }
 {
     match part_at(text, at, Form::Integer(3)) {
         Part::Is(filter, _, behind) => match part_at(text, behind, Form::Prefix) {
             Part::Is(prefix, digits, next) => {
                 let head = Head {
                     scheme: s,
+                    control,
                     filter,
                     prefix,
                     digits,
@@ -235,26 +251,37 @@ fn partitioned(text: &[u8], at: usize, s: Scheme, body: Body) -> Reading
 }
 
 // The parts of a scheme, from index `at` on.
-fn parts_at(text: &[u8], at: usize, s: Scheme) -> Reading
+fn parts_at(text: &[u8], at: usize, control: ControlFields, s: Scheme) -> Reading
     requires { ⌜ at ≤ length (now text) ⌝ }
-    ensures { λ r. ⌜ r ≡ readAs s (partsIn at (layout s) (drop at (now (text .entry)))) ⌝ }
+    ensures { λ r. ⌜ r ≡ readAs control s (partsIn at (layout s) (drop at (now (text .entry)))) ⌝ }
 {
     let p = about(s).parts;
     match p {
-        Parts::Integers(a, b, c) => general(text, at, s, a, b, c),
-        Parts::F(body) => partitioned(text, at, s, body),
+        Parts::Integers(a, b, c) => general(text, at, control, s, a, b, c),
+        Parts::F(body) => partitioned(text, at, control, s, body),
     }
 }
 
-// A text: its start, its scheme's name, and its parts.
+// What follows the control fields: a scheme's name, and its parts.
+fn named_at(text: &[u8], at: usize, control: ControlFields) -> Reading
+    requires { ⌜ at ≤ length (now text) ⌝ }
+    ensures { λ r. ⌜ r ≡ readingOf (namedTag (controlled control at (drop at (now (text .entry))))) ⌝ }
+{
+    match name(text, at) {
+        Named::Is(s, next) => parts_at(text, next, control, s),
+        Named::Unlisted => refused(refusal::NAME, at),
+    }
+}
+
+// A text: its start, its control fields, its scheme's name, and its parts.
 pub fn read(text: &[u8]) -> Reading
     ensures { λ r. ⌜ r ≡ readingOf (tagOfText (now (text .entry))) ⌝ }
 {
     if !begins(text) {
         return refused(refusal::START, 0);
     }
-    match name(text, START) {
-        Named::Is(s, next) => parts_at(text, next, s),
-        Named::Unlisted => refused(refusal::NAME, START),
+    match control_at(text, START) {
+        Controlled::By(control, next) => named_at(text, next, control),
+        Controlled::Wrong(place) => refused(refusal::CONTROL_FIELDS, place),
     }
 }

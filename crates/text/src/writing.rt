@@ -1,7 +1,9 @@
-// The record of a tag to its text (document 01, "The text of a tag"). Each `put_` function writes a piece of it from index `at` on, and
+// The record of a tag to its text (document 01, "The text of a tag"; document 02, C-13). Each `put_` function writes a piece of it from index `at` on, and
 // returns the index after the piece.
+use super::control::put_control;
 use digits::put_bytes;
 use rules::Body;
+use rules::ControlFields;
 use rules::Last;
 use rules::Parts;
 use rules::Scheme;
@@ -13,6 +15,7 @@ ghost use mathlib.Core.List.{[], _∷_, _++_};
 ghost use Prim.Native.Nat.{_+_, _≤_, _<_};
 ghost use lib.ListN.{length};
 ghost use Rattle.rules.specs.Schemes.{cell, rowOf};
+ghost use Rattle.rules.specs.ControlFields.{controlText, ControlFits};
 ghost use Rattle.rules.specs.Grammar.{start, label, textOf};
 ghost use Rattle.scheme.specs.Records.{HasTag, Writes};
 ghost use Rattle.digits.specs.Pieces.{Puts};
@@ -52,14 +55,15 @@ fn put_label(out: &mut [u8], at: usize, s: Scheme) -> usize
     }
 }
 
-// What stands before the parts, from index 0 on: `urn:epc:tag:` and the 10 bytes of the longest name.
-fn put_start(out: &mut [u8], s: Scheme) -> usize
-    requires { ⌜ 22 ≤ length (now out) ⌝ }
-    ensures { λ r. ⌜ Puts (start ++ label s) 0 (now (out .entry)) r (now (out .exit)) ⌝ }
-    ensures { λ r. ⌜ r ≤ 22 ⌝ }
+// What stands before the parts, from index 0 on: `urn:epc:tag:`, at most 17 bytes of control fields, and the 10 of the longest name.
+fn put_start(out: &mut [u8], control: ControlFields, s: Scheme) -> usize
+    requires { ⌜ ControlFits control × (39 ≤ length (now out)) ⌝ }
+    ensures { λ r. ⌜ Puts (start ++ (controlText control ++ label s)) 0 (now (out .entry)) r (now (out .exit)) ⌝ }
+    ensures { λ r. ⌜ r ≤ 39 ⌝ }
 {
     let at = put_bytes(out, 0, b"urn:epc:tag:");
-    put_label(out, at, s)
+    let name = put_control(out, at, control);
+    put_label(out, name, s)
 }
 
 // The filter and the company prefix, each with its dot: one digit, 12 at most, and two dots.
@@ -165,7 +169,8 @@ pub fn write(tag: Record, out: &mut [u8]) -> usize
     ensures { λ n. ⌜ Writes textOf tag (now (out .entry)) n (now (out .exit)) ⌝ }
 {
     let s = tag.scheme;
-    let at = put_start(out, s);
+    let control = tag.control;
+    let at = put_start(out, control, s);
     let parts = about(s).parts;
     match parts {
         Parts::F(body) => put_body(out, at, body, tag),

@@ -1,10 +1,9 @@
 -- The toggle says whether the AFI is written.
 use mathlib.Core.Path.{sym, _∙_}
 use native.Mathlib.Omega.{arith}
-use native.Mathlib.Nat.{add-zero}
 use denote.Ref.{now}
 use borrow.Author.Needs.{needs}
-use Rattle.numeral.proofs.Splices.{splice-nil}
+use Rattle.digits.proofs.Joins.{nothing-put}
 use Rattle.rules.specs.Bytes.{bytes}
 use Rattle.rules.proofs.BankReads.{at-lt}
 use Rattle.bank.proofs.RawTexts.{no-afi, some-afi}
@@ -15,8 +14,7 @@ without : tie.Need-returns
 without c =
     let read = c .before in
     let s = read .before .before .before in
-    rw (no-afi (now (s .args .bank)) (sym (read .field-at .ensures) ∙ c .if1 .taken))
-    (record { end = sym (add-zero (s .args .at)); bytes = sym (splice-nil (s .args .out .now) (s .args .at)) })
+    rw (no-afi (now (s .args .bank)) (sym (read .field-at .ensures) ∙ c .if1 .taken)) (nothing-put (s .args .out .now) (s .args .at))
 
 byte : tie.Need-cast-t8
 byte c = omega (arith, c .field-at2 .ensures, at-lt (now (c .before .before .before .before .before .args .bank)) 0x18 8)

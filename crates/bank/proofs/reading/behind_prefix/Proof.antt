@@ -7,7 +7,7 @@ use borrow.Author.Needs.{needs}
 use denote.Ref.{now}
 use Rattle.fields.specs.BitReaders.{codeField}
 use Rattle.bank.specs.Reading.{Referred, referenceEnd}
-use Rattle.bank.proofs.Answers.{refuses}
+use Rattle.bank.proofs.Answers.{two, refuses}
 use Rattle.bank.proofs.Companies.{listed, room, reference-lies, large, referred}
 use Rattle.bank.proofs.References.{serial-lies, groups-lie, groups-within, wrong, right}
 use Rattle.fields.proofs.Steps.{behind, taken}
@@ -91,16 +91,22 @@ serial-requires c κs =
     let small = c .before .before .before .before .before .before in
     serial-lies _ _ _ _ _ _ (small-reference small) _ (last-at (read small))
 
+fields-requires : tie.Need-fields-requires
+fields-requires c κs =
+    let small = c .before .before .before .before .before .before .before in
+    two _ _ _ (begin (read small) .pre .0 .coded)
+
 right-string : tie.Need-returns-4
 right-string c =
-    let joined = c .before in
+    let serial = c .before in
+    let joined = serial .before in
     let counted = joined .before in
     let groups = counted .before .before in
     let plain = groups .before in
     let small = plain .before .before in
     let t = read small in
-    right _ _ _ _ _ _ (small-reference small) _ (last-at t) _ (groups .groups .ensures) _ (counted .count .ensures) (plain .if2 .left) _
-    (taken (now (begin t .args .bank)) (t .take .result .at) (shape t .shape-in .result .serial) (c .take2 .ensures) _ refl) (some-string joined)
+    right _ _ _ _ _ _ (small-reference small) _ (last-at t) _ (groups .groups .ensures) _ (counted .count .ensures) _ (c .fields .ensures) (plain .if2 .left) _
+    (taken (now (begin t .args .bank)) (t .take .result .at) (shape t .shape-in .result .serial) (serial .take2 .ensures) _ refl) (some-string joined)
 
 pub behind-prefix-spec : {M : Type 1} → statement M
 behind-prefix-spec =
@@ -119,4 +125,5 @@ behind-prefix-spec =
     string-at
     wrong-string
     serial-requires
+    fields-requires
     right-string)

@@ -9,7 +9,7 @@ use Rattle.scheme.specs.Outlines.{Narrow}
 use Rattle.scheme.proofs.Widths.{parts-narrow}
 use Rattle.bank.proofs.Sizes.{Inside, sizes}
 use Rattle.fields.proofs.Steps.{behind, taken}
-use Rattle.bank.proofs.Answers.{lies, three-integers}
+use Rattle.bank.proofs.Answers.{two, lies, three-integers}
 use Rattle.bank.proofs.reading.general.Statement.{statement}
 use Rattle.bank.proofs.reading.general.Tie as tie
 
@@ -40,12 +40,13 @@ third-lies c κs =
 
 returns : tie.Need-returns
 returns c =
-    let second = c .before in
+    let third = c .before in
+    let second = third .before in
     let first = second .before in
     let s = first .before .before in
     let b = now (s .args .bank) in
-    rw (taken b (s .args .at) (s .args .a) (first .take .ensures) 8 (s .pre .1), taken b (first .take .result .at) (s .args .b) (second .take2 .ensures) _ (second-at first), taken b (second .take2 .result .at) (s .args .c) (c .take3 .ensures) _ (third-at second))
+    rw (c .fields .ensures, taken b (s .args .at) (s .args .a) (first .take .ensures) 8 (s .pre .1), taken b (first .take .result .at) (s .args .b) (second .take2 .ensures) _ (second-at first), taken b (second .take2 .result .at) (s .args .c) (third .take3 .ensures) _ (third-at second))
     (sym (three-integers b _ (s .args .a) (s .args .b) (s .args .c) (s .pre .0)))
 
 pub general-spec : {M : Type 1} → statement M
-general-spec = tie.close (tie.spec first-lies second-lies third-lies returns)
+general-spec = tie.close (tie.spec first-lies second-lies third-lies (λ c κs. two _ _ _ (c .before .before .before .before .pre .0)) returns)

@@ -7,7 +7,7 @@ use Rattle.rules.specs.BankNumbers.{numericIn}
 use Rattle.fields.specs.BitReaders.{codeField}
 use Rattle.fields.proofs.Steps.{taken}
 use Rattle.tens.specs.Numerics.{numericOf}
-use Rattle.bank.proofs.Answers.{refuses}
+use Rattle.bank.proofs.Answers.{two, refuses}
 use Rattle.bank.proofs.References.{room, serial-lies, no-digits, some-digits}
 use Rattle.bank.proofs.reading.numeric_behind.Statement.{statement}
 use Rattle.bank.proofs.reading.numeric_behind.Tie as tie
@@ -33,11 +33,15 @@ refused c =
     let s = one .before .before .before in
     refuses (c .refused-at .ensures) refl (no-digits _ _ _ _ _ _ (s .pre .0) _ (s .pre .1) (s .pre .2) _ (digits-are one) (test .if1 .taken))
 
+fields-requires : tie.Need-fields-requires
+fields-requires c κs = two _ _ _ (c .before .before .before .before .before .pre .0 .begun .coded)
+
 digits : tie.Need-returns-2
 digits c =
-    let one = c .before .before in
+    let test = c .before in
+    let one = test .before .before in
     let s = one .before .before .before in
-    some-digits _ _ _ _ _ _ (s .pre .0) _ (s .pre .1) (s .pre .2) _ (digits-are one) (c .if1 .left)
+    some-digits _ _ _ _ _ _ (s .pre .0) _ (s .pre .1) (s .pre .2) _ (digits-are one) _ (c .fields .ensures) (test .if1 .left)
 
 pub numeric-behind-spec : {M : Type 1} → statement M
-numeric-behind-spec = tie.close (tie.spec take-requires behind-one-requires string-at refused digits)
+numeric-behind-spec = tie.close (tie.spec take-requires behind-one-requires string-at refused fields-requires digits)

@@ -3,7 +3,7 @@ use Prim.Native.Nat.{_+_, _-_, _*_, _≤_, _<_}
 use mathlib.Core.Path.{_≡_}
 use native.Mathlib.Omega.{arith}
 use borrow.Author.Needs.{needs}
-use Rattle.bank.proofs.PackedBanks.{few-words, keeps, start-leaves, stands, takes-fill, ends}
+use Rattle.bank.proofs.PackedBanks.{few-words, fields-fit, keeps, start-leaves, stands, takes-fill, ends}
 use Rattle.bank.proofs.writing.write.Statement.{statement}
 use Rattle.bank.proofs.writing.write.Tie as tie
 
@@ -13,9 +13,9 @@ few c = few-words (c .before .before .pre .1 .is) (c .about .ensures)
 put-parts-requires : tie.Need-put-parts-requires
 put-parts-requires c κs =
     let start = c .before .before .before in
-    let a = start .before .before in
+    let a = start .before .before .before in
     let s = a .before .before in
-    (start-leaves (a .about .result) (s .pre .0) (start .put-start .ensures), keeps (s .pre .1 .is) (a .about .ensures))
+    (start-leaves (a .about .result) (s .args .tag .control) (s .pre .0) (start .put-start .ensures), keeps (s .pre .1 .is) (a .about .ensures))
 
 -- once the parts are written, from the place where they are
 module _ (c : tie.After-put-parts) where
@@ -23,7 +23,7 @@ module _ (c : tie.After-put-parts) where
   start = c .before .before .before .before
 
   abbrev about : tie.After-about
-  about = start .before .before
+  about = start .before .before .before
 
   abbrev begin : tie.Start
   begin = about .before .before
@@ -53,7 +53,7 @@ write-spec =
     tie.close
     (tie.spec
     (λ c κs. search needs)
-    (λ c κs. (search needs, few (c .before)))
+    (λ c κs. let a = c .before .before in (search needs, few a, fields-fit (a .before .before .pre .1 .is) (a .about .ensures)))
     put-parts-requires
     (λ c κs. few (about (c .before .before)))
     (λ c. let p = c .before .before .before .before .before in omega (arith, size-is (c .before .before), stood p))

@@ -18,7 +18,7 @@ shown : (c : tie.After-known-told) → let n = c .before .n .given .0 .0 in
     let e = c .before .before .before .before .before .bank-to-text .last .1 .0 in
     let s = c .before .before .before .before .before .before .before .before .before in
     let l = s .args .out .now in
-    (n ≤ 99) × Wrote (ofBank (s .args .bank .now) (tagOfBank (s .args .bank .now))) l (n + 2) (set (set (putMid 2 (length l - 2) l e) 0 (code "T")) 1 space)
+    (n ≤ 116) × Wrote (ofBank (s .args .bank .now) (tagOfBank (s .args .bank .now))) l (n + 2) (set (set (putMid 2 (length l - 2) l e) 0 (code "T")) 1 space)
 shown c =
     let n = c .before .n in
     let text = c .before .before .before .before .before .bank-to-text in

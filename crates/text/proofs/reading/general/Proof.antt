@@ -35,7 +35,7 @@ returns c =
     let v = c .before .before in
     let s = v .before .before .before .before in
     let x = s .args in
-    c .with-integer .ensures ∙ with-integer (x .s) (x .a) (x .b) (x .c) (s .pre .1) (x .text .now) (x .at) _ _ _ (first v)
+    c .with-integer .ensures ∙ with-integer (x .control) (x .s) (x .a) (x .b) (x .c) (s .pre .1) (x .text .now) (x .at) _ _ _ (first v)
 
 returns-2 : tie.Need-returns-2
 returns-2 c =
@@ -43,7 +43,7 @@ returns-2 c =
     let p = w .before .before in
     let s = p .before .before in
     let x = s .args in
-    c .refused .ensures ∙ no-integer (x .s) (x .a) (x .b) (x .c) (s .pre .1) (x .text .now) (x .at) (w .place .given .0 .0) (sym (w .place .given .1) ∙ p .part-at .ensures)
+    c .refused .ensures ∙ no-integer (x .control) (x .s) (x .a) (x .b) (x .c) (s .pre .1) (x .text .now) (x .at) (w .place .given .0 .0) (sym (w .place .given .1) ∙ p .part-at .ensures)
 
 pub general-spec : {M : Type 1} → statement M
 general-spec =

@@ -50,7 +50,7 @@ returns c =
     let v = w .before .before .before .before in
     let s = v .before .before .before .before in
     let x = s .args in
-    c .behind-prefix .ensures ∙ with-prefix (x .s) (x .body) (s .pre .1) (x .text .now) (x .at) _ _ _ (filter v) _ _ _ (prefix w)
+    c .behind-prefix .ensures ∙ with-prefix (x .control) (x .s) (x .body) (s .pre .1) (x .text .now) (x .at) _ _ _ (filter v) _ _ _ (prefix w)
 
 returns-2 : tie.Need-returns-2
 returns-2 c =
@@ -60,7 +60,7 @@ returns-2 c =
     let s = v .before .before .before .before in
     let x = s .args in
     c .refused .ensures
-    ∙ no-prefix (x .s) (x .body) (s .pre .1) (x .text .now) (x .at) _ _ _ (filter v) (w .place .given .0 .0) (sym (w .place .given .1) ∙ p .part-at2 .ensures)
+    ∙ no-prefix (x .control) (x .s) (x .body) (s .pre .1) (x .text .now) (x .at) _ _ _ (filter v) (w .place .given .0 .0) (sym (w .place .given .1) ∙ p .part-at2 .ensures)
 
 returns-3 : tie.Need-returns-3
 returns-3 c =
@@ -68,7 +68,7 @@ returns-3 c =
     let p = w .before .before in
     let s = p .before .before in
     let x = s .args in
-    c .refused2 .ensures ∙ no-filter (x .s) (x .body) (s .pre .1) (x .text .now) (x .at) (w .place2 .given .0 .0) (sym (w .place2 .given .1) ∙ p .part-at .ensures)
+    c .refused2 .ensures ∙ no-filter (x .control) (x .s) (x .body) (s .pre .1) (x .text .now) (x .at) (w .place2 .given .0 .0) (sym (w .place2 .given .1) ∙ p .part-at .ensures)
 
 pub partitioned-spec : {M : Type 1} → statement M
 partitioned-spec =

@@ -1,4 +1,4 @@
--- `read` meets its contract: the start, the name, then the parts.
+-- `read` meets its contract: the start, the control fields, then the name and the parts.
 use Prim.Native.Nat.{_≤_}
 use mathlib.Core.Path.{_≡_, sym, _∙_}
 use mathlib.Core.Option.{some}
@@ -8,7 +8,7 @@ use lib.ListN.{length, drop}
 use Rattle.rules.specs.Grammar.{start}
 use Rattle.rules.specs.TextNumbers.{after}
 use Rattle.digits.proofs.Starts.{begun-is, begun-not}
-use Rattle.text.proofs.Starts.{twelve, no-start, no-name, name-is, with-name}
+use Rattle.text.proofs.Starts.{twelve, no-start, wrong-fields, with-fields}
 use Rattle.text.proofs.reading.read.Statement.{statement}
 use Rattle.text.proofs.reading.read.Tie as tie
 
@@ -22,25 +22,26 @@ returns c =
 begins : (c : tie.Else1) → let t = c .before .before .before .args .text .now in (12 ≤ length t) × (after start t ≡ some (drop 12 t))
 begins c = begun-is start (c .before .before .before .args .text .now) 12 twelve (sym (c .before .begins .ensures) ∙ not-false _ (c .if1 .left))
 
-inside : tie.Need-parts-at-requires
+inside : tie.Need-named-at-requires
 inside c κs =
-    let n = c .before in
-    let m = n .before .before in
+    let k = c .before in
+    let m = k .before .before in
     let t = m .before .before .before .before .args .text .now in
-    name-is t (begins (m .before) .1) (begins (m .before) .0) (n .s .given .0 .0) (n .s .given .0 .1 .0) (sym (n .s .given .1) ∙ m .name .ensures) .2
+    with-fields t (begins (m .before) .1) (k .control .given .0 .0) (k .control .given .0 .1 .0) (sym (k .control .given .1) ∙ m .control-at .ensures) .0
 
 returns-2 : tie.Need-returns-2
 returns-2 c =
-    let n = c .before .before in
-    let m = n .before .before in
+    let k = c .before .before in
+    let m = k .before .before in
     let t = m .before .before .before .before .args .text .now in
-    c .parts-at .ensures ∙ with-name t (begins (m .before) .1) (begins (m .before) .0) (n .s .given .0 .0) (n .s .given .0 .1 .0) (sym (n .s .given .1) ∙ m .name .ensures)
+    c .named-at .ensures ∙ with-fields t (begins (m .before) .1) (k .control .given .0 .0) (k .control .given .0 .1 .0) (sym (k .control .given .1) ∙ m .control-at .ensures) .1
 
 returns-3 : tie.Need-returns-3
 returns-3 c =
-    let m = c .before .before .before in
+    let k = c .before .before in
+    let m = k .before .before in
     let t = m .before .before .before .before .args .text .now in
-    c .refused2 .ensures ∙ no-name t (begins (m .before) .1) (begins (m .before) .0) (sym (c .before .enum-told .given .1) ∙ m .name .ensures)
+    c .refused2 .ensures ∙ wrong-fields t (begins (m .before) .1) (k .place .given .0 .0) (sym (k .place .given .1) ∙ m .control-at .ensures)
 
 pub read-spec : {M : Type 1} → statement M
 read-spec =

@@ -4,16 +4,19 @@ use borrow.Author.Needs.{needs}
 use Rattle.rules.specs.declared.Parts.{Parts}
 use Rattle.rules.specs.Schemes.{about}
 use Rattle.digits.proofs.Joins.{join}
-use Rattle.text.proofs.Written.{Small, small, writes}
+use Rattle.text.proofs.Written.{Small, small, control-fits, writes}
 use Rattle.text.proofs.writing.write.Statement.{statement}
 use Rattle.text.proofs.writing.write.Tie as tie
 
 module _ (c : tie.After-about) (p : Parts) (e : c .about .result .parts ≡ p) where
-  parts-are : about (c .before .before .before .before .before .before .args .tag .scheme) .parts ≡ p
+  parts-are : about (c .before .before .before .before .before .before .before .args .tag .scheme) .parts ≡ p
   parts-are = sym (ap (λ l. l .parts) (c .about .ensures)) ∙ e
 
-  fits : Small p (c .before .before .before .before .before .before .args .tag)
-  fits = small _ p (c .before .before .before .before .before .before .pre .1) parts-are
+  fits : Small p (c .before .before .before .before .before .before .before .args .tag)
+  fits = small _ p (c .before .before .before .before .before .before .before .pre .1) parts-are
+
+put-start-requires : tie.Need-put-start-requires
+put-start-requires c κs = let s = c .before .before .before in (control-fits (s .args .tag) (s .pre .1), search needs)
 
 put-body-requires : tie.Need-put-body-requires
 put-body-requires c κs =
@@ -40,7 +43,7 @@ pub write-spec : {M : Type 1} → statement M
 write-spec =
     tie.close
     (tie.spec
-    (λ c κs. search needs)
+    put-start-requires
     (λ c κs. search needs)
     (λ c. search needs)
     put-body-requires

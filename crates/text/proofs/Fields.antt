@@ -1,0 +1,43 @@
+-- The control fields, written one after the other, and the colon behind them.
+use Prim.Native.Nat.{ℕ, zero, suc, _+_, _≤_}
+use mathlib.Core.Path.{_≡_, refl, sym, ap}
+use mathlib.Core.List.{List, [], _∷_, _++_}
+use native.Mathlib.Omega.{arith}
+use lib.Dec.{lit≤}
+use lib.ListN.{length, length-append}
+use Rattle.rules.specs.declared.ControlFields.{ControlFields}
+use Rattle.rules.specs.Bytes.{bytes, colon, hexText}
+use Rattle.rules.specs.ControlFields.{ControlName, umi, att, fieldText, standing, fieldsText, closed, controlText}
+use Rattle.digits.specs.Pieces.{Puts}
+use Rattle.digits.proofs.Joins.{join, nothing-put}
+
+-- a field that is zero, and one that is not
+pub zero-put : (f : ControlName) (v : ℕ) (s : List ℕ) (at : ℕ) → v ≡ 0 → Puts (standing f v) at s at s
+zero-put f v s at e = rw e (nothing-put s at)
+
+pub standing-is : (f : ControlName) (v : ℕ) → ¬ (v ≡ 0) → standing f v ≡ fieldText f v
+standing-is f zero n = absurd (n refl)
+standing-is f (suc v) n = refl
+
+pub umi-is : (v : ℕ) → v ≤ 1 → ¬ (v ≡ 0) → standing umi v ≡ bytes "[umi=1]"
+umi-is v l n = let one : v ≡ 1 = omega arith in rw one
+
+pub umi-length : (v : ℕ) → length (standing umi v) ≤ 7
+umi-length zero = lit≤ tt
+umi-length (suc v) = lit≤ tt
+
+-- the colon, if a field stands
+module _ (c : ControlFields) {s t : List ℕ} {at n : ℕ} (h : Puts (fieldsText c) at s n t) where
+  pub none-put : n ≡ at → Puts (controlText c) at s at t
+  none-put e = go (fieldsText c) refl (h .end)
+    where
+      go : (l : List ℕ) → fieldsText c ≡ l → n ≡ at + length l → Puts (closed l) at s at t
+      go [] q r = rw (q, e) at h
+      go (x ∷ xs) q r = absurd (omega arith)
+
+  pub some-put : ¬ (n ≡ at) → {u : List ℕ} {m : ℕ} → Puts (colon ∷ []) n t m u → Puts (controlText c) at s m u
+  some-put d {u} {m} k = go (fieldsText c) refl (h .end)
+    where
+      go : (l : List ℕ) → fieldsText c ≡ l → n ≡ at + length l → Puts (closed l) at s m u
+      go [] q r = absurd (d (omega arith))
+      go (x ∷ xs) q r = join (rw q at h) k
