@@ -8,7 +8,9 @@ use lib.ListN.{length, getD, drop, length-append, drop-of-length-le}
 use borrow.Author.Tests.{ne-eqb}
 use Rattle.rules.specs.declared.ControlFields.{ControlFields}
 use Rattle.rules.specs.Bytes.{colon}
-use Rattle.rules.specs.ControlFields.{ControlName, umi, att, standing, fieldsText, noFields}
+use Rattle.rules.specs.declared.ControlName.{ControlName}
+use Rattle.rules.specs.declared.ControlName.the-variants.{Umi, Att}
+use Rattle.rules.specs.ControlFields.{standing, fieldsText, noFields}
 use Rattle.rules.specs.Answers.{taken, given, _>>=_}
 use Rattle.rules.specs.TextNumbers.{after, valueIn, bracketed, controlFieldsIn}
 use Rattle.rules.specs.Conditions.{Begins}
@@ -31,24 +33,24 @@ module _ (f : ControlName) (t : List ℕ) (i : ℕ) (m : Valued) (l : i ≤ leng
   next : m .next ≡ i + length (standing f (m .value))
   next = rw e
 
-module _ (t : List ℕ) (i : ℕ) (m : Valued) (inside : i ≤ length t) (first : m ≡ valuedAt umi i (drop i t)) where
+module _ (t : List ℕ) (i : ℕ) (m : Valued) (inside : i ≤ length t) (first : m ≡ valuedAt Umi i (drop i t)) where
   pub umi-inside : m .next ≤ length t
-  umi-inside = behind umi t i m inside first .0
+  umi-inside = behind Umi t i m inside first .0
 
-  module _ (a : Valued) (second : a ≡ valuedAt att (m .next) (drop (m .next) t)) where
+  module _ (a : Valued) (second : a ≡ valuedAt Att (m .next) (drop (m .next) t)) where
     abbrev read : ControlFields
     read = record { umi = m .value; att = a .value }
 
     end : i + length (fieldsText read) ≡ a .next
-    end = omega (arith, next umi t i m inside first, next att t (m .next) a umi-inside second, length-append (standing umi (m .value)) (standing att (a .value)))
+    end = omega (arith, next Umi t i m inside first, next Att t (m .next) a umi-inside second, length-append (standing Umi (m .value)) (standing Att (a .value)))
 
     fields-read : bracketed i (drop i t) ≡ (given (after (colon ∷ []) (drop (a .next) t)) 20 (a .next) >>= λ v. taken (record { control = read; next = a .next + 1; rest = v }))
     fields-read =
         rw (
-          behind umi t i m inside first .1,
-          behind att t (m .next) a umi-inside second .1,
-          value umi t i m inside first,
-          value att t (m .next) a umi-inside second,
+          behind Umi t i m inside first .1,
+          behind Att t (m .next) a umi-inside second .1,
+          value Umi t i m inside first,
+          value Att t (m .next) a umi-inside second,
           end,
         )
 

@@ -5,7 +5,8 @@ use mathlib.Core.Bool.{_&&_, cond}
 use lib.Dec.{ltb}
 use lib.ListN.{length}
 use Rattle.rules.specs.Answers.{Answer, refused, taken}
-use Rattle.rules.specs.ControlFields.{ControlName, standing}
+use Rattle.rules.specs.declared.ControlName.{ControlName}
+use Rattle.rules.specs.ControlFields.{standing}
 use Rattle.rules.specs.TextNumbers.{valueIn}
 use Rattle.rules.specs.TextNumbers.{Controlled as RulesControlled}
 use Rattle.digits.specs.Digits.{hexValue}

@@ -2,10 +2,10 @@
 use digits::begins;
 use digits::hex_value;
 use rules::ControlFields;
+use rules::ControlName;
 ghost use mathlib.Core.Path.{_≡_};
 ghost use Prim.Native.Nat.{_≤_};
 ghost use lib.ListN.{length, drop};
-ghost use Rattle.rules.specs.ControlFields.{umi, att};
 ghost use Rattle.rules.specs.TextNumbers.{bracketed, controlFieldsIn};
 ghost use Rattle.parts.specs.Controls.{absent as absentAt, twoDigits, valuedAt, controlledBy};
 
@@ -37,7 +37,7 @@ fn absent(at: usize) -> Valued
 // The field `umi` at `at`.
 fn umi_at(text: &[u8], at: usize) -> Valued
     requires { ⌜ at ≤ length (now text) ⌝ }
-    ensures { λ r. ⌜ r ≡ valuedAt umi at (drop at (now (text .entry))) ⌝ }
+    ensures { λ r. ⌜ r ≡ valuedAt ControlName.Umi at (drop at (now (text .entry))) ⌝ }
 {
     if !begins(&text[at..], b"[umi=1]") {
         return absent(at);
@@ -66,7 +66,7 @@ fn two_digits(first: u8, second: u8) -> u8
 // The field `att` at `at`: its digits stand behind six characters, and a bracket behind them.
 fn att_at(text: &[u8], at: usize) -> Valued
     requires { ⌜ at ≤ length (now text) ⌝ }
-    ensures { λ r. ⌜ r ≡ valuedAt att at (drop at (now (text .entry))) ⌝ }
+    ensures { λ r. ⌜ r ≡ valuedAt ControlName.Att at (drop at (now (text .entry))) ⌝ }
 {
     if text.len() - at < ATT_LENGTH {
         return absent(at);
@@ -87,13 +87,24 @@ fn att_at(text: &[u8], at: usize) -> Valued
     }
 }
 
+// The field of this name at `at`.
+fn field_at(text: &[u8], at: usize, name: ControlName) -> Valued
+    requires { ⌜ at ≤ length (now text) ⌝ }
+    ensures { λ r. ⌜ r ≡ valuedAt name at (drop at (now (text .entry))) ⌝ }
+{
+    match name {
+        ControlName::Umi => umi_at(text, at),
+        ControlName::Att => att_at(text, at),
+    }
+}
+
 // The control fields of a text that has a bracket at `at`.
 fn bracketed_at(text: &[u8], at: usize) -> Controlled
     requires { ⌜ at ≤ length (now text) ⌝ }
     ensures { λ r. ⌜ r ≡ controlledBy (bracketed at (drop at (now (text .entry)))) ⌝ }
 {
-    let umi = umi_at(text, at);
-    let att = att_at(text, umi.next);
+    let umi = field_at(text, at, ControlName::Umi);
+    let att = field_at(text, umi.next, ControlName::Att);
     let end = att.next;
     if text.len() <= end {
         return Controlled::Wrong(end);

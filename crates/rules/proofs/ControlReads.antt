@@ -11,12 +11,14 @@ use native.Mathlib.Nat.{add-zero}
 use lib.Dec.{eqb, eqb→eq, eqb-refl}
 use lib.ListN.{length, getD, drop, length-append, length-drop}
 use Rattle.numeral.proofs.Arithmetic.{lt-or-ge}
-use Rattle.rules.specs.Answers.{refused, taken, _>>=_, given, numberOf, placeOf}
+use Rattle.rules.specs.Answers.{Answer, refused, taken, _>>=_, given, numberOf, placeOf}
 use Rattle.rules.specs.Bytes.{colon}
 use Rattle.rules.specs.declared.ControlFields.{ControlFields}
-use Rattle.rules.specs.ControlFields.{ControlName, umi, att, most, fieldText, standing, fieldsText, closed, controlText, ControlFits, noFields, bracket}
+use Rattle.rules.specs.declared.ControlName.{ControlName}
+use Rattle.rules.specs.declared.ControlName.the-variants.{Umi, Att}
+use Rattle.rules.specs.ControlFields.{most, fieldText, standing, fieldsText, closed, controlText, ControlFits, noFields, bracket}
 use Rattle.rules.specs.Grammar.{start}
-use Rattle.rules.specs.TextNumbers.{after, valueIn, Controlled, bracketed, opens, controlFieldsIn}
+use Rattle.rules.specs.TextNumbers.{after, Valued, valueIn, Controlled, bracketed, opens, controlFieldsIn}
 use Rattle.rules.specs.Conditions.{Begins, Starts, IsField, WrongField, malformed-or-unknown, out-of-order, repeated, of-zero, NoColon, FaultAt, ControlledBy}
 use Rattle.rules.proofs.Tests.{is-true, eq→eqb}
 use Rattle.rules.proofs.Answers.{Decides, Settled}
@@ -53,47 +55,56 @@ no-colon w h = go (after (colon ∷ []) w) (after-decides (colon ∷ []) w)
 
 -- no field that would be right stands at w, behind the fields of c
 abbrev NoneRight : ControlFields → List ℕ → Type 0
-NoneRight c w = (c .umi ≡ 0 → c .att ≡ 0 → Absent umi w) × (c .att ≡ 0 → Absent att w)
+NoneRight c w = (c .umi ≡ 0 → c .att ≡ 0 → Absent Umi w) × (c .att ≡ 0 → Absent Att w)
 
 shut-right : (c : ControlFields) (w : List ℕ) → ¬ (Starts bracket w) → NoneRight c w
-shut-right c w h = (λ _ _ v x z l e. h (field-opens umi v w x e), λ _ v x z l e. h (field-opens att v w x e))
+shut-right c w h = (λ _ _ v x z l e. h (field-opens Umi v w x e), λ _ v x z l e. h (field-opens Att v w x e))
 
 wrong-right : (c : ControlFields) (w : List ℕ) → WrongField c w → NoneRight c w
-wrong-right c w (malformed-or-unknown h) = (λ _ _ v x z l e. h (umi, v, (l, x, e)), λ _ v x z l e. h (att, v, (l, x, e)))
+wrong-right c w (malformed-or-unknown h) = (λ _ _ v x z l e. h (Umi, v, (l, x, e)), λ _ v x z l e. h (Att, v, (l, x, e)))
 wrong-right c w (out-of-order v i k) = (λ _ n. absurd (omega arith), λ n. absurd (omega arith))
-wrong-right c w (repeated umi v i k) = (λ n _. absurd (omega arith), λ _ v′ x z l e. other-field v v′ (i .1) x (sym (i .2) ∙ e))
-wrong-right c w (repeated att v i k) = (λ _ n. absurd (omega arith), λ n. absurd (omega arith))
-wrong-right c w (of-zero umi i) = (
-  λ _ _ v x z l e. omega (arith, one-field umi 0 v (i .1) x (i .0) l (sym (i .2) ∙ e) .0),
+wrong-right c w (repeated Umi v i k) = (λ n _. absurd (omega arith), λ _ v′ x z l e. other-field v v′ (i .1) x (sym (i .2) ∙ e))
+wrong-right c w (repeated Att v i k) = (λ _ n. absurd (omega arith), λ n. absurd (omega arith))
+wrong-right c w (of-zero Umi i) = (
+  λ _ _ v x z l e. omega (arith, one-field Umi 0 v (i .1) x (i .0) l (sym (i .2) ∙ e) .0),
   λ _ v x z l e. other-field 0 v (i .1) x (sym (i .2) ∙ e),
 )
-wrong-right c w (of-zero att i) = (
+wrong-right c w (of-zero Att i) = (
   λ _ _ v x z l e. other-field v 0 x (i .1) (sym e ∙ i .2),
-  λ _ v x z l e. omega (arith, one-field att 0 v (i .1) x (i .0) l (sym (i .2) ∙ e) .0),
+  λ _ v x z l e. omega (arith, one-field Att 0 v (i .1) x (i .0) l (sym (i .2) ∙ e) .0),
 )
+
+-- The reader reads umi, then att behind it, then the colon.
+abbrev asRead : ℕ → Valued → Valued → Answer Controlled
+asRead i m a =
+    let c : ControlFields = record { umi = m .value; att = a .value } in
+    given (after (colon ∷ []) (a .rest)) 20 (i + length (fieldsText c)) >>= λ v. taken (record { control = c; next = i + length (fieldsText c) + 1; rest = v })
+
+in-order : (i : ℕ) (u : List ℕ) → bracketed i u ≡ asRead i (valueIn Umi u) (valueIn Att (valueIn Umi u .rest))
+in-order i u = refl
 
 -- What is right is given.
 module _ (c : ControlFields) (w : List ℕ) (fits : ControlFits c) (right : NoneRight c w) where
-  att-of : valueIn att (standing att (c .att) ++ w) ≡ record { value = c .att; rest = w }
-  att-of = value-of att (c .att) w (fits .1) (right .1)
+  att-of : valueIn Att (standing Att (c .att) ++ w) ≡ record { value = c .att; rest = w }
+  att-of = value-of Att (c .att) w (fits .1) (right .1)
 
-  umi-of : valueIn umi (fieldsText c ++ w) ≡ record { value = c .umi; rest = standing att (c .att) ++ w }
+  umi-of : valueIn Umi (fieldsText c ++ w) ≡ record { value = c .umi; rest = standing Att (c .att) ++ w }
   umi-of =
-      rw (append-assoc (standing umi (c .umi)) (standing att (c .att)) w)
-      (value-of umi (c .umi) (standing att (c .att) ++ w) (fits .0) λ n. absent n (c .att) (right .0 n))
+      ap (valueIn Umi) (append-assoc (standing Umi (c .umi)) (standing Att (c .att)) w)
+      ∙ value-of Umi (c .umi) (standing Att (c .att) ++ w) (fits .0) λ n. absent n (c .att) (right .0 n)
     where
-      absent : c .umi ≡ 0 → (a : ℕ) → (a ≡ 0 → Absent umi w) → Absent umi (standing att a ++ w)
+      absent : c .umi ≡ 0 → (a : ℕ) → (a ≡ 0 → Absent Umi w) → Absent Umi (standing Att a ++ w)
       absent n zero h = h refl
       absent n (suc a) h = λ v x z l e. other-field v (suc a) x w (sym e)
 
-  pub bracketed-of : (i : ℕ) → bracketed i (fieldsText c ++ w) ≡ (given (after (colon ∷ []) w) 20 (i + length (fieldsText c)) >>= λ v. taken (record { control = c; next = i + length (fieldsText c) + 1; rest = v }))
-  bracketed-of i = rw (umi-of, att-of)
+  pub bracketed-of : (i : ℕ) → bracketed i (fieldsText c ++ w) ≡ asRead i (record { value = c .umi; rest = standing Att (c .att) ++ w }) (record { value = c .att; rest = w })
+  bracketed-of i = in-order i (fieldsText c ++ w) ∙ rw (umi-of, att-of)
 
 -- fields that stand begin with a bracket
 fields-open : (c : ControlFields) (x : ℕ) (xs : List ℕ) → fieldsText c ≡ x ∷ xs → x ≡ bracket
 fields-open c x xs e = go (c .umi) (c .att) e
   where
-    go : (u a : ℕ) → standing umi u ++ standing att a ≡ x ∷ xs → x ≡ bracket
+    go : (u a : ℕ) → standing Umi u ++ standing Att a ≡ x ∷ xs → x ≡ bracket
     go zero zero e = let n = ap length e in absurd (omega arith)
     go zero (suc a) e = sym (ap (λ l. getD l 0 0) e)
     go (suc u) a e = sym (ap (λ l. getD l 0 0) e)
@@ -101,7 +112,7 @@ fields-open c x xs e = go (c .umi) (c .att) e
 no-fields : (c : ControlFields) → fieldsText c ≡ [] → c ≡ noFields
 no-fields c e = go (c .umi) (c .att) e
   where
-    go : (u a : ℕ) → standing umi u ++ standing att a ≡ [] → _≡_ {A = ControlFields} (record { umi = u; att = a }) noFields
+    go : (u a : ℕ) → standing Umi u ++ standing Att a ≡ [] → _≡_ {A = ControlFields} (record { umi = u; att = a }) noFields
     go zero zero e = refl
     go zero (suc a) e = let n = ap length e in absurd (omega arith)
     go (suc u) a e = let n = ap length e in absurd (omega arith)
@@ -182,56 +193,56 @@ zero-or-more (suc n) = inr (omega arith)
 -- The fields that are read, and what stands behind them.
 module _ (u : List ℕ) where
   abbrev pub behindUmi : List ℕ
-  behindUmi = valueIn umi u .rest
+  behindUmi = valueIn Umi u .rest
 
   abbrev pub behindBoth : List ℕ
-  behindBoth = valueIn att behindUmi .rest
+  behindBoth = valueIn Att behindUmi .rest
 
   abbrev pub fields : ControlFields
-  fields = record { umi = valueIn umi u .value; att = valueIn att behindUmi .value }
+  fields = record { umi = valueIn Umi u .value; att = valueIn Att behindUmi .value }
 
   fields-fit : ControlFits fields
-  fields-fit = (value-is umi u .0, value-is att behindUmi .0)
+  fields-fit = (value-is Umi u .0, value-is Att behindUmi .0)
 
   fields-are : u ≡ fieldsText fields ++ behindBoth
   fields-are =
-      value-is umi u .1 ∙ ap (standing umi (fields .umi) ++_) (value-is att behindUmi .1)
-      ∙ sym (append-assoc (standing umi (fields .umi)) (standing att (fields .att)) behindBoth)
+      value-is Umi u .1 ∙ ap (standing Umi (fields .umi) ++_) (value-is Att behindUmi .1)
+      ∙ sym (append-assoc (standing Umi (fields .umi)) (standing Att (fields .att)) behindBoth)
 
   -- where a field is 0, what stands behind it is what stood before it
   no-umi : fields .umi ≡ 0 → u ≡ behindUmi
-  no-umi n = let e = value-is umi u .1 in rw n at e
+  no-umi n = let e = value-is Umi u .1 in rw n at e
 
   no-att : fields .att ≡ 0 → behindUmi ≡ behindBoth
-  no-att n = let e = value-is att behindUmi .1 in rw n at e
+  no-att n = let e = value-is Att behindUmi .1 in rw n at e
 
   -- a field behind them is not umi or att where that would be right, so it is wrong
-  wrong-umi : (v : ℕ) → IsField umi v behindBoth → WrongField fields behindBoth
+  wrong-umi : (v : ℕ) → IsField Umi v behindBoth → WrongField fields behindBoth
   wrong-umi v i =
-      ⊎-elim (λ (z : v ≡ 0). of-zero umi (rw z at i))
+      ⊎-elim (λ (z : v ≡ 0). of-zero Umi (rw z at i))
       (λ (z : 0 < v).
       ⊎-elim (λ (n : fields .umi ≡ 0).
-      ⊎-elim (λ (m : fields .att ≡ 0). absurd (value-absent umi u n v (i .1) z (i .0) (no-umi n ∙ no-att m ∙ i .2))) (λ (m : 0 < fields .att). out-of-order v i m) (zero-or-more (fields .att)))
-      (λ (n : 0 < fields .umi). repeated umi v i n) (zero-or-more (fields .umi)))
+      ⊎-elim (λ (m : fields .att ≡ 0). absurd (value-absent Umi u n v (i .1) z (i .0) (no-umi n ∙ no-att m ∙ i .2))) (λ (m : 0 < fields .att). out-of-order v i m) (zero-or-more (fields .att)))
+      (λ (n : 0 < fields .umi). repeated Umi v i n) (zero-or-more (fields .umi)))
       (zero-or-more v)
 
-  wrong-att : (v : ℕ) → IsField att v behindBoth → WrongField fields behindBoth
+  wrong-att : (v : ℕ) → IsField Att v behindBoth → WrongField fields behindBoth
   wrong-att v i =
-      ⊎-elim (λ (z : v ≡ 0). of-zero att (rw z at i))
+      ⊎-elim (λ (z : v ≡ 0). of-zero Att (rw z at i))
       (λ (z : 0 < v).
-      ⊎-elim (λ (n : fields .att ≡ 0). absurd (value-absent att behindUmi n v (i .1) z (i .0) (no-att n ∙ i .2))) (λ (n : 0 < fields .att). repeated att v i n) (zero-or-more (fields .att)))
+      ⊎-elim (λ (n : fields .att ≡ 0). absurd (value-absent Att behindUmi n v (i .1) z (i .0) (no-att n ∙ i .2))) (λ (n : 0 < fields .att). repeated Att v i n) (zero-or-more (fields .att)))
       (zero-or-more v)
 
   wrong-field : WrongField fields behindBoth
   wrong-field =
-      ⊎-elim (λ (h : Has umi (most umi) behindBoth). wrong-umi (h .0) (h .1, h .2, h .3))
-      (λ (h : ¬ (Has umi (most umi) behindBoth)).
-      ⊎-elim (λ (k : Has att (most att) behindBoth). wrong-att (k .0) (k .1, k .2, k .3)) (λ (k : ¬ (Has att (most att) behindBoth)). malformed-or-unknown (neither h k)) (has-field att (most att) behindBoth))
-      (has-field umi (most umi) behindBoth)
+      ⊎-elim (λ (h : Has Umi (most Umi) behindBoth). wrong-umi (h .0) (h .1, h .2, h .3))
+      (λ (h : ¬ (Has Umi (most Umi) behindBoth)).
+      ⊎-elim (λ (k : Has Att (most Att) behindBoth). wrong-att (k .0) (k .1, k .2, k .3)) (λ (k : ¬ (Has Att (most Att) behindBoth)). malformed-or-unknown (neither h k)) (has-field Att (most Att) behindBoth))
+      (has-field Umi (most Umi) behindBoth)
     where
-      neither : ¬ (Has umi (most umi) behindBoth) → ¬ (Has att (most att) behindBoth) → ¬ ((f : ControlName) × (v : ℕ) × IsField f v behindBoth)
-      neither h k (umi, v, i) = h (v, i .0, i .1, i .2)
-      neither h k (att, v, i) = k (v, i .0, i .1, i .2)
+      neither : ¬ (Has Umi (most Umi) behindBoth) → ¬ (Has Att (most Att) behindBoth) → ¬ ((f : ControlName) × (v : ℕ) × IsField f v behindBoth)
+      neither h k (Umi, v, i) = h (v, i .0, i .1, i .2)
+      neither h k (Att, v, i) = k (v, i .0, i .1, i .2)
 
   -- so is whatever refuses them
   some-fields : ¬ (u ≡ behindBoth) → 0 < length (fieldsText fields)

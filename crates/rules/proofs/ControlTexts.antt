@@ -11,7 +11,9 @@ use lib.ListN.{length, getD, drop}
 use Rattle.numeral.proofs.Arithmetic.{lt-or-ge}
 use Rattle.rules.specs.Bytes.{upto, hexDigits, hexDigit}
 use Rattle.rules.specs.declared.ControlFields.{ControlFields}
-use Rattle.rules.specs.ControlFields.{ControlName, umi, att, most, fieldText, standing, fieldsText, ControlFits, bracket}
+use Rattle.rules.specs.declared.ControlName.{ControlName}
+use Rattle.rules.specs.declared.ControlName.the-variants.{Umi, Att}
+use Rattle.rules.specs.ControlFields.{most, fieldText, standing, fieldsText, ControlFits, bracket}
 use Rattle.rules.specs.TextNumbers.{after, Valued, either, valued, valueIn}
 use Rattle.rules.specs.Conditions.{Starts, IsField, valueOf}
 use Rattle.rules.proofs.Tests.{below-is}
@@ -27,18 +29,18 @@ one-digit n m l k e = sym (hex-back n l) ∙ ap (λ x. length (upto x hexDigits)
 
 -- A text begins with one field at most, and each value is spelt in its own way.
 pub one-field : (f : ControlName) (v w : ℕ) (x y : List ℕ) → v ≤ most f → w ≤ most f → fieldText f v ++ x ≡ fieldText f w ++ y → (v ≡ w) × (x ≡ y)
-one-field umi v w x y a b e = (omega (arith, ap (λ l. getD l 5 0) e), ap (drop 7) e)
-one-field att v w x y a b e =
+one-field Umi v w x y a b e = (omega (arith, ap (λ l. getD l 5 0) e), ap (drop 7) e)
+one-field Att v w x y a b e =
     let h = one-digit (v / 16) (w / 16) (omega arith) (omega arith) (ap (λ l. getD l 6 0) e) in
     let l = one-digit (v % 16) (w % 16) (omega arith) (omega arith) (ap (λ l. getD l 7 0) e) in
     (omega (arith, h, l), ap (drop 9) e)
 
-pub other-field : (v w : ℕ) (x y : List ℕ) → ¬ (fieldText umi v ++ x ≡ fieldText att w ++ y)
+pub other-field : (v w : ℕ) (x y : List ℕ) → ¬ (fieldText Umi v ++ x ≡ fieldText Att w ++ y)
 other-field v w x y e = let d : _≡_ {A = ℕ} 117 97 = ap (λ l. getD l 1 0) e in omega arith
 
 pub field-opens : (f : ControlName) (v : ℕ) (u x : List ℕ) → u ≡ fieldText f v ++ x → Starts bracket u
-field-opens umi v u x e = (_, e)
-field-opens att v u x e = (_, e)
+field-opens Umi v u x e = (_, e)
+field-opens Att v u x e = (_, e)
 
 -- The value of a field.
 pub valued-is : (f : ControlName) (n : ℕ) (u : List ℕ) → (valued f n u .value ≤ n) × (u ≡ standing f (valued f n u .value) ++ valued f n u .rest)

@@ -20,7 +20,8 @@ use Rattle.rules.specs.declared.Parts.{Parts}
 use Rattle.rules.specs.declared.Parts.the-variants.{F, Integers}
 use Rattle.rules.specs.Schemes.{Form, company, digits, integer, string, atMost, numeric, counted, Row, rows, rowOf, cell, assetBits, prefixDigits, partition, lastForm, schemes, about, words}
 use Rattle.rules.specs.Characters.{tableA1, escaped, plain, spelling, stringText}
-use Rattle.rules.specs.ControlFields.{umi, att, standing, fieldsText, closed, controlText}
+use Rattle.rules.specs.declared.ControlName.the-variants.{Umi, Att}
+use Rattle.rules.specs.ControlFields.{standing, fieldsText, closed, controlText}
 use Rattle.rules.specs.Grammar.{plainNumber, last, Layout, part, end, laid, bodyLayout, Fit, Fits, more, one, spelled, written, Tag, TagText, textOf, start, label}
 use Rattle.rules.specs.Coding.{wordCount, within, bankOf}
 use Rattle.rules.specs.TextNumbers.{valueIn, tagOfText, textNumber}
@@ -145,7 +146,7 @@ parts-within (Integers a b c) m h =
 pub fields-length : (c : ControlFields) → length (fieldsText c) ≤ 16
 fields-length c = go (c .umi) (c .att)
   where
-    go : (u a : ℕ) → length (standing umi u ++ standing att a) ≤ 16
+    go : (u a : ℕ) → length (standing Umi u ++ standing Att a) ≤ 16
     go zero zero = lit≤ tt
     go zero (suc a) = lit≤ tt
     go (suc u) zero = lit≤ tt

@@ -17,7 +17,9 @@ use Rattle.rules.specs.declared.Parts.{Parts}
 use Rattle.rules.specs.declared.Parts.the-variants.{F, Integers}
 use Rattle.rules.specs.Schemes.{Form, company, digits, integer, string, atMost, numeric, lastForm, Row, Cell, cell, rowDigits, assetBits, prefixBits, prefixDigits, rowAt, rowOf, about, words, zeroBits}
 use Rattle.rules.specs.Characters.{character, stringText}
-use Rattle.rules.specs.ControlFields.{ControlName, umi, att, most, fieldText, fieldsText, controlText, ControlFits, bracket}
+use Rattle.rules.specs.declared.ControlName.{ControlName}
+use Rattle.rules.specs.declared.ControlName.the-variants.{Umi, Att}
+use Rattle.rules.specs.ControlFields.{most, fieldText, fieldsText, controlText, ControlFits, bracket}
 use Rattle.rules.specs.Grammar.{start, label}
 use Rattle.rules.specs.Coding.{at, wordCount}
 
@@ -50,13 +52,13 @@ abbrev pub IsField : ControlName → ℕ → List ℕ → Type 0
 IsField f v u = (v ≤ most f) × (w : List ℕ) × (u ≡ fieldText f v ++ w)
 
 abbrev pub valueOf : ControlName → ControlFields → ℕ
-valueOf umi c = c .umi
-valueOf att c = c .att
+valueOf Umi c = c .umi
+valueOf Att c = c .att
 
 -- a control field at w, behind the fields of c, is malformed, out of order, repeated, unknown or zero
 pub data WrongField (c : ControlFields) (w : List ℕ) : Type 0 where
   malformed-or-unknown : ¬ ((f : ControlName) × (v : ℕ) × IsField f v w) → WrongField c w
-  out-of-order : (v : ℕ) → IsField umi v w → 0 < c .att → WrongField c w
+  out-of-order : (v : ℕ) → IsField Umi v w → 0 < c .att → WrongField c w
   repeated : (f : ControlName) (v : ℕ) → IsField f v w → 0 < valueOf f c → WrongField c w
   of-zero : (f : ControlName) → IsField f 0 w → WrongField c w
 

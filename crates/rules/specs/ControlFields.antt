@@ -3,22 +3,19 @@ use Prim.Native.Nat.{ℕ, zero, suc, _≤_}
 use Prim.Native.Char.{code}
 use mathlib.Core.List.{List, [], _∷_, _++_}
 use Rattle.rules.specs.Bytes.{bytes, colon, digitsText, hexText}
+use Rattle.rules.specs.declared.ControlName.{ControlName}
+use Rattle.rules.specs.declared.ControlName.the-variants.{Umi, Att}
 use Rattle.rules.specs.declared.ControlFields.{ControlFields}
-
--- bit 15h, and bits 18h to 1Fh
-pub data ControlName : Type 0 where
-  umi : ControlName
-  att : ControlName
 
 -- a field's largest value
 abbrev pub most : ControlName → ℕ
-most umi = 1
-most att = 255
+most Umi = 1
+most Att = 255
 
 -- a field: umi's value is one digit, att's two upper-case hex digits
 abbrev pub fieldText : ControlName → ℕ → List ℕ
-fieldText umi v = bytes "[umi=" ++ (digitsText (v ∷ []) ++ bytes "]")
-fieldText att v = bytes "[att=x" ++ (hexText (v ∷ []) ++ bytes "]")
+fieldText Umi v = bytes "[umi=" ++ (digitsText (v ∷ []) ++ bytes "]")
+fieldText Att v = bytes "[att=x" ++ (hexText (v ∷ []) ++ bytes "]")
 
 -- it stands only if it is not zero
 abbrev pub standing : ControlName → ℕ → List ℕ
@@ -27,7 +24,7 @@ standing f (suc v) = fieldText f (suc v)
 
 -- umi comes first, att second
 abbrev pub fieldsText : ControlFields → List ℕ
-fieldsText c = standing umi (c .umi) ++ standing att (c .att)
+fieldsText c = standing Umi (c .umi) ++ standing Att (c .att)
 
 -- a colon behind the last field, if one stands
 abbrev pub closed : List ℕ → List ℕ
@@ -39,7 +36,7 @@ controlText c = closed (fieldsText c)
 
 -- the values keep their limits
 abbrev pub ControlFits : ControlFields → Type 0
-ControlFits c = (c .umi ≤ most umi) × (c .att ≤ most att)
+ControlFits c = (c .umi ≤ most Umi) × (c .att ≤ most Att)
 
 -- no field stands
 abbrev pub noFields : ControlFields

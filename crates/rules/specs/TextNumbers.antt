@@ -13,7 +13,9 @@ use Rattle.rules.specs.declared.Scheme.{Scheme}
 use Rattle.rules.specs.declared.ControlFields.{ControlFields}
 use Rattle.rules.specs.Schemes.{Form, company, digits, integer, string, atMost, numeric, schemes}
 use Rattle.rules.specs.Characters.{escaped, plain}
-use Rattle.rules.specs.ControlFields.{ControlName, umi, att, most, fieldText, fieldsText, noFields, bracket}
+use Rattle.rules.specs.declared.ControlName.{ControlName}
+use Rattle.rules.specs.declared.ControlName.the-variants.{Umi, Att}
+use Rattle.rules.specs.ControlFields.{most, fieldText, fieldsText, noFields, bracket}
 use Rattle.rules.specs.Grammar.{Role, filter, prefix, reference, last, Layout, part, end, layout, shaped, sized, Tag, start, label}
 
 -- the text behind s, if t begins with s
@@ -48,8 +50,8 @@ pub record Controlled : Type 0 where
 -- 20: the fields that stand from offset i on, in their order, then a colon
 abbrev pub bracketed : ℕ → List ℕ → Answer Controlled
 bracketed i u = do
-  let m = valueIn umi u
-  let a = valueIn att (m .rest)
+  let m = valueIn Umi u
+  let a = valueIn Att (m .rest)
   let c : ControlFields = record { umi = m .value; att = a .value }
   let j = i + length (fieldsText c)
   v ← given (after (colon ∷ []) (a .rest)) 20 j

@@ -21,7 +21,13 @@ pub enum Scheme {
     Cpi96,
 }
 
-// The control fields of a text, which are bits of the control word: the user memory bit and the attribute bits (document 02, C-13).
+// The control fields of a text by name (document 02, C-13): bit 15h of the bank, the user memory bit, and bits 18h to 1Fh, the attribute bits.
+pub enum ControlName {
+    Umi,
+    Att,
+}
+
+// Their values.
 pub struct ControlFields {
     pub umi: u8,
     pub att: u8,

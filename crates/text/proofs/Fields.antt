@@ -7,7 +7,9 @@ use lib.Dec.{lit≤}
 use lib.ListN.{length, length-append}
 use Rattle.rules.specs.declared.ControlFields.{ControlFields}
 use Rattle.rules.specs.Bytes.{bytes, colon, hexText}
-use Rattle.rules.specs.ControlFields.{ControlName, umi, att, fieldText, standing, fieldsText, closed, controlText}
+use Rattle.rules.specs.declared.ControlName.{ControlName}
+use Rattle.rules.specs.declared.ControlName.the-variants.{Umi, Att}
+use Rattle.rules.specs.ControlFields.{fieldText, standing, fieldsText, closed, controlText}
 use Rattle.digits.specs.Pieces.{Puts}
 use Rattle.digits.proofs.Joins.{join, nothing-put}
 
@@ -19,10 +21,10 @@ pub standing-is : (f : ControlName) (v : ℕ) → ¬ (v ≡ 0) → standing f v 
 standing-is f zero n = absurd (n refl)
 standing-is f (suc v) n = refl
 
-pub umi-is : (v : ℕ) → v ≤ 1 → ¬ (v ≡ 0) → standing umi v ≡ bytes "[umi=1]"
+pub umi-is : (v : ℕ) → v ≤ 1 → ¬ (v ≡ 0) → standing Umi v ≡ bytes "[umi=1]"
 umi-is v l n = let one : v ≡ 1 = omega arith in rw one
 
-pub umi-length : (v : ℕ) → length (standing umi v) ≤ 7
+pub umi-length : (v : ℕ) → length (standing Umi v) ≤ 7
 umi-length zero = lit≤ tt
 umi-length (suc v) = lit≤ tt
 

@@ -4,29 +4,29 @@ use Rattle.parts.proofs.FieldsInText.{umi-inside, text-ends, no-colon, 
 use Rattle.parts.proofs.control.bracketed_at.Statement.{statement}
 use Rattle.parts.proofs.control.bracketed_at.Tie as tie
 
-inside : tie.Need-att-at-requires
-inside c κs = let s = c .before .before in umi-inside (s .args .text .now) (s .args .at) _ (s .pre) (c .umi-at .ensures)
+inside : tie.Need-field-at-requires-2
+inside c κs = let s = c .before .before in umi-inside (s .args .text .now) (s .args .at) _ (s .pre) (c .field-at .ensures)
 
 ends : tie.Need-returns
 ends c =
     let second = c .before in
     let first = second .before in
     let s = first .before .before in
-    text-ends (s .args .text .now) (s .args .at) _ (s .pre) (first .umi-at .ensures) _ (second .att-at .ensures) (c .if1 .taken)
+    text-ends (s .args .text .now) (s .args .at) _ (s .pre) (first .field-at .ensures) _ (second .field-at2 .ensures) (c .if1 .taken)
 
 other : tie.Need-returns-2
 other c =
     let second = c .before .before .before in
     let first = second .before in
     let s = first .before .before in
-    no-colon (s .args .text .now) (s .args .at) _ (s .pre) (first .umi-at .ensures) _ (second .att-at .ensures) (c .before .before .if1 .left) (c .if2 .taken)
+    no-colon (s .args .text .now) (s .args .at) _ (s .pre) (first .field-at .ensures) _ (second .field-at2 .ensures) (c .before .before .if1 .left) (c .if2 .taken)
 
 colon : tie.Need-returns-3
 colon c =
     let second = c .before .before .before in
     let first = second .before in
     let s = first .before .before in
-    a-colon (s .args .text .now) (s .args .at) _ (s .pre) (first .umi-at .ensures) _ (second .att-at .ensures) (c .before .before .if1 .left) (c .if2 .left)
+    a-colon (s .args .text .now) (s .args .at) _ (s .pre) (first .field-at .ensures) _ (second .field-at2 .ensures) (c .before .before .if1 .left) (c .if2 .left)
 
 pub bracketed-at-spec : {M : Type 1} → statement M
 bracketed-at-spec =

@@ -9,16 +9,16 @@ use Rattle.text.proofs.Fields.{umi-length, none-put, some-put}
 use Rattle.text.proofs.control.put_control.Statement.{statement}
 use Rattle.text.proofs.control.put_control.Tie as tie
 
-room : tie.Need-put-att-requires
+room : tie.Need-put-field-requires-2
 room c κs =
     let umi = c .before .before .before in
     let s = umi .before .before .before in
-    omega (arith, umi .put-umi .ensures .end, umi-length (s .args .control .umi), umi .put-umi .kept .0, s .pre .1)
+    (s .pre .0 .1, omega (arith, umi .put-field .ensures .end, umi-length (s .args .control .umi), umi .put-field .kept .0, s .pre .1))
 
 -- both fields, from the place where the second is written
-fields : (c : tie.After-put-att) → let s = c .before .before .before .before .before .before .before in
-    Puts (fieldsText (s .args .control)) (s .args .at) (s .args .out .now) (c .put-att .result) (c .put-att .last .0)
-fields c = join (c .before .before .before .before .put-umi .ensures) (c .put-att .ensures)
+fields : (c : tie.After-put-field2) → let s = c .before .before .before .before .before .before .before in
+    Puts (fieldsText (s .args .control)) (s .args .at) (s .args .out .now) (c .put-field2 .result) (c .put-field2 .last .0)
+fields c = join (c .before .before .before .before .put-field .ensures) (c .put-field2 .ensures)
 
 none : tie.Need-returns
 none c =
@@ -31,7 +31,7 @@ colon-room c κs =
     let att = c .before .before .before .before .before in
     let umi = att .before .before .before .before in
     let s = umi .before .before .before in
-    omega (arith, fields att .end, fields-length (s .args .control), umi .put-umi .kept .0, att .put-att .kept .0, s .pre .1)
+    omega (arith, fields att .end, fields-length (s .args .control), umi .put-field .kept .0, att .put-field2 .kept .0, s .pre .1)
 
 some : tie.Need-returns-2
 some c =

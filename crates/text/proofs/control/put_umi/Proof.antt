@@ -1,12 +1,12 @@
 -- Nothing, or the seven bytes.
 use borrow.Author.Needs.{needs}
-use Rattle.rules.specs.ControlFields.{umi}
+use Rattle.rules.specs.declared.ControlName.the-variants.{Umi}
 use Rattle.text.proofs.Fields.{zero-put, umi-is}
 use Rattle.text.proofs.control.put_umi.Statement.{statement}
 use Rattle.text.proofs.control.put_umi.Tie as tie
 
 none : tie.Need-returns
-none c = let a = c .before .before .args in zero-put umi (a .umi) (a .out .now) (a .at) (c .if1 .taken)
+none c = let a = c .before .before .args in zero-put Umi (a .umi) (a .out .now) (a .at) (c .if1 .taken)
 
 stands : tie.Need-returns-2
 stands c =
