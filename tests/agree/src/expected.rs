@@ -1,16 +1,23 @@
-//! Every place that a refusal can have, by the tables of documents 01 and 02 and the words of request C-12.
+//! Every place that a refusal can have, by the tables of documents 01 and 02 and the words of requests C-12 and C-13.
 use crate::place::{Place, Why};
 use crate::seen::has_rows;
 use second::tables::*;
 use std::collections::BTreeSet;
 
+/// How many characters `umi`, `att` and both take before the name, with the colon behind them.
+const FIELDS: [usize; 3] = [8, 10, 17];
+
+/// The row in which parts are expected behind control fields.
+const MIDDLE: usize = 3;
+
 pub fn places() -> BTreeSet<Place> {
     let mut found = BTreeSet::new();
     found.extend([Why::Plain, Why::AtEnd].map(|why| at(2, 0, why)));
-    found.extend([Why::Plain, Why::AtEnd].map(|why| at(3, 12, why)));
+    found.extend(of_control_fields_and_names());
     found.extend(of_any_bank());
     for scheme in &SCHEMES {
         found.extend(of_words(scheme).into_iter().map(|place| Place { scheme: Some(scheme.name), ..place }));
+        found.extend(of_parts_behind_fields(scheme).into_iter().map(|place| placed(scheme, MIDDLE, place)));
         for (partition, row) in ROWS.iter().enumerate() {
             let found_here = of_parts(scheme, row).into_iter().chain(of_fields(scheme, row));
             found.extend(found_here.map(|place| placed(scheme, partition, place)));
@@ -19,9 +26,21 @@ pub fn places() -> BTreeSet<Place> {
     found
 }
 
-/// A number at a place, of no scheme and no row.
+/// A number at a place, of no scheme, no row and no control fields.
 fn at(number: u32, place: usize, why: Why) -> Place {
-    Place { scheme: None, row: None, number, place: place as u32, why }
+    Place { scheme: None, row: None, fields: 0, number, place: place as u32, why }
+}
+
+/// 20 with a wrong field first or behind each good one, or no colon behind them; 3 without control fields and behind each.
+fn of_control_fields_and_names() -> Vec<Place> {
+    let mut found = vec![at(20, 12, Why::Field)];
+    found.extend([Why::Plain, Why::AtEnd].map(|why| at(3, 12, why)));
+    for fields in FIELDS {
+        let colon = 12 + fields - 1;
+        found.extend([Why::Field, Why::Plain, Why::AtEnd].map(|why| at(20, colon, why)));
+        found.extend([Why::Plain, Why::AtEnd].map(|why| Place { fields, ..at(3, colon + 1, why) }));
+    }
+    found
 }
 
 /// The place of a scheme and, where it has rows and the number comes after the prefix, of a row.
@@ -35,14 +54,30 @@ fn of_parts(scheme: &Scheme, row: &Row) -> Vec<Place> {
     let mut found = Vec::new();
     let mut offsets = BTreeSet::from([12 + scheme.name.len() + 1]);
     for part in scheme.parts {
-        let number = u32::from(part.form());
-        for &offset in &offsets {
-            found.extend([Why::Plain, Why::AtEnd].map(|why| at(number, offset, why)));
-            found.extend((number == 7).then_some(at(8, offset, Why::Plain)));
-        }
+        found.extend(offsets.iter().flat_map(|&offset| of_part(part, offset)));
         let next = |offset: &usize| lengths(part, row).map(|length| offset + length + 1).collect::<Vec<_>>();
         offsets = offsets.iter().flat_map(next).collect();
     }
+    found
+}
+
+/// The same behind each control field and both, in one row and with the shortest parts before.
+fn of_parts_behind_fields(scheme: &Scheme) -> Vec<Place> {
+    let mut found = Vec::new();
+    for fields in FIELDS {
+        let mut offset = 12 + fields + scheme.name.len() + 1;
+        for part in scheme.parts {
+            found.extend(of_part(part, offset).into_iter().map(|place| Place { fields, ..place }));
+            offset += lengths(part, &ROWS[MIDDLE]).start() + 1;
+        }
+    }
+    found
+}
+
+fn of_part(part: &Part, offset: usize) -> Vec<Place> {
+    let number = u32::from(part.form());
+    let mut found = [Why::Plain, Why::AtEnd].map(|why| at(number, offset, why)).to_vec();
+    found.extend((number == 7).then_some(at(8, offset, Why::Plain)));
     found
 }
 
@@ -60,15 +95,18 @@ fn lengths(part: &Part, row: &Row) -> std::ops::RangeInclusive<usize> {
     }
 }
 
-/// 9 with no byte, one, and each length that is too short for a scheme's word count or the largest; 10 to 13, 12 with each bit alone.
+/// 9 with no byte, one, and each length that is too short for a scheme's word count or the largest; 10 to 13, 12 with bit 16h alone, with
+/// each bit that a text can say, and with all of these.
 fn of_any_bank() -> Vec<Place> {
     let mut found = vec![at(9, 0, Why::Plain), at(9, 1, Why::Plain)];
     for words in SCHEMES.iter().map(|scheme| scheme.words).chain([31]) {
         found.extend((2..2 + 2 * words).map(|length| at(9, length, Why::Words(words))));
     }
     found.extend([at(10, 0x10, Why::Plain), at(11, 0x17, Why::Plain), at(13, 0x20, Why::Plain)]);
-    let control = (0x15..0x20).filter(|&address| address != 0x17);
-    found.extend(control.map(|address| at(12, 0x15, Why::Bits(1 << (0x1F - address)))));
+    let bit = |address: u32| 1 << (0x1F - address);
+    let said = || (0x15..0x20).filter(|&address| address != 0x16 && address != 0x17).map(bit);
+    let others = said().chain([0, said().sum()]);
+    found.extend(others.map(|others: u32| at(12, 0x16, Why::Bits(bit(0x16) | others))));
     found
 }
 

@@ -5,16 +5,32 @@ use second::tables::{Part, Scheme, CHARACTER_BITS, ROWS, TAG_START};
 
 /// The place of a text's refusal.
 pub fn in_text(text: &[u8], Reply { number, place, .. }: Reply) -> Option<Place> {
-    let why = if place as usize == text.len() { Why::AtEnd } else { Why::Plain };
-    match number {
-        0 => None,
-        1..=3 => Some(Place { scheme: None, row: None, number, place, why }),
-        _ => {
-            let (name, parts) = split(&text[TAG_START.len()..], b':');
-            let row = if number > 5 { row_of(name, parts) } else { None };
-            Some(Place { scheme: Scheme::by_name(name).map(|scheme| scheme.name), row, number, place, why })
-        }
+    let why = match text.get(place as usize) {
+        None => Why::AtEnd,
+        Some(b'[') if number == 20 => Why::Field,
+        Some(_) => Why::Plain,
+    };
+    let of =
+        |scheme: Option<&Scheme>, row, fields| Some(Place { scheme: scheme.map(|s| s.name), row, fields, number, place, why });
+    if number == 0 {
+        return None;
     }
+    if !(3..=8).contains(&number) {
+        return of(None, None, 0);
+    }
+    let (fields, named) = behind_fields(&text[TAG_START.len()..]);
+    if number == 3 {
+        return of(None, None, fields);
+    }
+    let (name, parts) = split(named, b':');
+    let row = if number > 5 { row_of(name, parts) } else { None };
+    of(Scheme::by_name(name), row, fields)
+}
+
+/// How many characters of good control fields, and of the colon behind them, stand before the name; and the text from the name on.
+fn behind_fields(text: &[u8]) -> (usize, &[u8]) {
+    let named = if text.starts_with(b"[") { split(text, b':').1 } else { text };
+    (text.len() - named.len(), named)
 }
 
 /// The row of a text's company prefix, where the scheme has one.
@@ -37,7 +53,8 @@ fn split(text: &[u8], byte: u8) -> (&[u8], &[u8]) {
 
 /// The place of a bank's refusal.
 pub fn in_bank(bank: &[u8], Reply { number, place, .. }: Reply) -> Option<Place> {
-    let of = |scheme: Option<&Scheme>, row, why| Some(Place { scheme: scheme.map(|s| s.name), row, number, place, why });
+    let of =
+        |scheme: Option<&Scheme>, row, why| Some(Place { scheme: scheme.map(|s| s.name), row, fields: 0, number, place, why });
     if number == 0 {
         return None;
     }
