@@ -1,9 +1,9 @@
 /* tagcodec: RFID tag codes of sixteen GS1 EPC schemes, text to bank, bank to text, and the line on the screen.
  *
  * Every function here is proved, in Rattle, to give what docs/01-scope.md says and, for gdti-113, sgcn-96 and cpi-96, C-11 of
- * docs/02-change-requests.md, and for the places its C-12, for any bytes whatever: number, place, length, and each byte of the
- * output. The caller checks nothing beforehand. No function keeps a pointer, allocates, or changes anything but the output, so all
- * may be called from any number of threads.
+ * docs/02-change-requests.md, for the places its C-12 and for control fields its C-13, for any bytes whatever: number, place,
+ * length, and each byte of the output. The caller checks nothing beforehand. No function keeps a pointer, allocates, or changes
+ * anything but the output, so all may be called from any number of threads.
  *
  * What the caller owes, because C can't check it:
  *   - each pointer is valid for the length beside it (NULL will do where that length is 0);
@@ -30,21 +30,23 @@ enum tagcodec_number {
     TAGCODEC_OUTPUT_TOO_SHORT = 1, /* output shorter than 64 bytes (bank) or 160 bytes (text) */
 
     /* text to bank */
-    TAGCODEC_START = 2,          /* does not begin with `urn:epc:tag:` */
-    TAGCODEC_NAME = 3,           /* what follows is not a listed name and a colon */
-    TAGCODEC_FILTER = 4,         /* filter is not one digit 0 to 7 and a dot (never for gid-96) */
-    TAGCODEC_PREFIX = 5,         /* no 6 to 12 digits and a dot; for gid-96, no integer below 2^28 and a dot */
-    TAGCODEC_REFERENCE = 6,      /* not the row's digits and a dot, or the end for sscc-96, gsrn-96 and gsrnp-96;
-                                    for cpi-96, no integer of at most the row's digits and a dot;
-                                    for gid-96, no integer below 2^24 and a dot */
-    TAGCODEC_LAST_PART_FORM = 7, /* last part has the wrong form, empty included */
-    TAGCODEC_LAST_PART_SIZE = 8, /* last part's value, or its number of characters or digits, is too large */
+    TAGCODEC_START = 2,           /* does not begin with `urn:epc:tag:` */
+    TAGCODEC_CONTROL_FIELDS = 20, /* `[` follows, but not `[umi=1]`, or `[att=xNN]` with two upper-case hex digits that are not 00, or
+                                     both in this order, and a colon */
+    TAGCODEC_NAME = 3,            /* what follows is not a listed name and a colon */
+    TAGCODEC_FILTER = 4,          /* filter is not one digit 0 to 7 and a dot (never for gid-96) */
+    TAGCODEC_PREFIX = 5,          /* no 6 to 12 digits and a dot; for gid-96, no integer below 2^28 and a dot */
+    TAGCODEC_REFERENCE = 6,       /* not the row's digits and a dot, or the end for sscc-96, gsrn-96 and gsrnp-96;
+                                     for cpi-96, no integer of at most the row's digits and a dot;
+                                     for gid-96, no integer below 2^24 and a dot */
+    TAGCODEC_LAST_PART_FORM = 7,  /* last part has the wrong form, empty included */
+    TAGCODEC_LAST_PART_SIZE = 8,  /* last part's value, or its number of characters or digits, is too large */
 
     /* bank to text; the raw line gives only 1, 9 and 10 */
     TAGCODEC_BANK_TOO_SHORT = 9,      /* fewer than 2 bytes, or fewer than 2 + 2 W, W being the bank's word count */
     TAGCODEC_NO_WORDS = 10,           /* W is 0 */
     TAGCODEC_TOGGLE = 11,             /* toggle is 1: no EPC */
-    TAGCODEC_CONTROL_BITS = 12,       /* bits 15h, 16h or 18h to 1Fh not all 0 */
+    TAGCODEC_CONTROL_BITS = 12,       /* bit 16h, XPC, is 1 */
     TAGCODEC_HEADER = 13,             /* header not in the table of schemes */
     TAGCODEC_WORD_COUNT = 14,         /* W differs from the scheme's word count */
     TAGCODEC_FILL_BITS = 15,          /* a fill bit, or one of the 24 zero bits, is 1 */
@@ -64,12 +66,13 @@ enum tagcodec_number {
  *
  *   0, 1            0
  *   2               0
- *   3               12, where the name begins
+ *   20              the offset of the first control field that is wrong, or where the colon behind the last should stand
+ *   3               where the name begins: 12, or behind control fields and their colon 20, 22 or 29
  *   4, 5, 6, 7, 8   the offset where the filter, the prefix, the reference or the last part begins
  *   9               the number of bytes lent
  *   10              10h
  *   11              17h
- *   12              15h, whichever of the bits it is
+ *   12              16h
  *   13              20h
  *   14              10h
  *   15              the first bit, in order, that must be 0 and is 1
@@ -84,11 +87,12 @@ typedef struct tagcodec_reply {
     size_t length;
 } tagcodec_reply;
 
-/* The text of a tag, `urn:epc:tag:` and so on, to its bank: numbers 0 to 8. The bank begins with the word at address 10h, after
- * the CRC, and has at most 28 bytes. A text is bytes; it needs no zero at its end, and a zero in it is a character like others. */
+/* The text of a tag, `urn:epc:tag:` and so on, to its bank: numbers 0 to 8 and 20. The bank begins with the word at address 10h, after
+ * the CRC, and has at most 28 bytes. Its bit 15h is 1 if the text has `[umi=1]`, its bits 18h to 1Fh are NN if the text has `[att=xNN]`;
+ * without the field they are 0. A text is bytes; it needs no zero at its end, and a zero in it is a character like others. */
 tagcodec_reply tagcodec_text_to_bank(const uint8_t *text, size_t text_length, uint8_t *out, size_t out_length);
 
-/* A bank, from address 10h on, to the text of its tag: numbers 0, 1 and 9 to 19. A text has at most 99 characters, and no zero is
+/* A bank, from address 10h on, to the text of its tag: numbers 0, 1 and 9 to 19. A text has at most 116 characters, and no zero is
  * written behind it. Bytes after word W are never looked at. Writing the text again gives the same bank. */
 tagcodec_reply tagcodec_bank_to_text(const uint8_t *bank, size_t bank_length, uint8_t *out, size_t out_length);
 

@@ -1,5 +1,5 @@
-/* Every exported call from C: document 01's known tags, the place of every number, each output byte, and the lengths and pointers at
- * the edge. */
+/* Every exported call from C: document 01's known tags, tags with control fields, the place of every number, each output byte, and the
+ * lengths and pointers at the edge. */
 #include <stdio.h>
 #include <string.h>
 
@@ -92,11 +92,46 @@ static void known_tags(void) {
     text_refused("urn:epc:tag:sgtin-96:8.0614141.812345.6789", 4, 21);
     bank_refused("3000307C257BF7194E4000001A85", 16, 0x2B);
     bank_refused("30003003FFFFFFFFFC0000000000", 17, 0x2E);
-    bank_refused("30013074257BF7194E4000001A85", 12, 0x15);
+    both("30013074257BF7194E4000001A85", "urn:epc:tag:[att=x01]:sgtin-96:3.0614141.812345.6789");
     bank_refused("31003074257BF7194E4000001A85", 11, 0x17);
     raw("31083074257BF7194E4000001A85", "urn:epc:raw:96.x08.x3074257BF7194E4000001A85");
     bank_refused("00003074257BF7194E4000001A85", 10, 0x10);
     bank_refused("30003614257BF7194E70AEC400000000000000000000000000000000", 14, 0x10);
+}
+
+/* C-13: the fields alone and both, in the longest text too; section 12's example with an attribute; XPC. */
+static void control_fields(void) {
+    both("34003074257BF7194E4000001A85", "urn:epc:tag:[umi=1]:sgtin-96:3.0614141.812345.6789");
+    both("30FF3074257BF7194E4000001A85", "urn:epc:tag:[att=xFF]:sgtin-96:3.0614141.812345.6789");
+    both("340A3174257BF4499602D2000000", "urn:epc:tag:[umi=1][att=x0A]:sscc-96:3.0614141.1234567890");
+    both("3001" "3074257BF46DB64000000190", "urn:epc:tag:[att=x01]:sgtin-96:3.0614141.112345.400");
+    both("6CFF" "3614257BF7194E57AF5EBD7AF5EBD7AF5EBD7AF5EBD7AF5EBC00",
+         "urn:epc:tag:[umi=1][att=xFF]:sgtin-198:0.0614141.812345."
+         "%2F%2F%2F%2F%2F%2F%2F%2F%2F%2F%2F%2F%2F%2F%2F%2F%2F%2F%2F%2F");
+    bank_refused("32003074257BF7194E4000001A85", 12, 0x16);
+    bank_refused("36FF3074257BF7194E4000001A85", 12, 0x16);
+    bank_refused("34FFFF74257BF7194E4000001A85", 13, 0x20);
+    raw("36FF3074257BF7194E4000001A85", "urn:epc:raw:96.x3074257BF7194E4000001A85");
+}
+
+/* 20 at each of its places: a field that is wrong, out of order, repeated or unknown; the missing colon. Behind good fields, what is
+ * refused there. */
+static void control_places(void) {
+    text_refused("urn:epc:tag:[", 20, 12);
+    text_refused("urn:epc:tag:[umi=0]:gid-96:1.2.3", 20, 12);
+    text_refused("urn:epc:tag:[att=xab]:gid-96:1.2.3", 20, 12);
+    text_refused("urn:epc:tag:[umi=1][umi=1]:gid-96:1.2.3", 20, 19);
+    text_refused("urn:epc:tag:[umi=1]gid-96:1.2.3", 20, 19);
+    text_refused("urn:epc:tag:[att=x01][umi=1]:gid-96:1.2.3", 20, 21);
+    text_refused("urn:epc:tag:[att=x01][xpc=x0004]:sgtin-96:3.9521141.112345.400", 20, 21);
+    text_refused("urn:epc:tag:[umi=1][att=x01][att=x02]:gid-96:1.2.3", 20, 28);
+    text_refused("urn:epc:tag:[umi=1][att=x01]", 20, 28);
+    text_refused("urn:epc:tag:umi=1:gid-96:1.2.3", 3, 12);
+    text_refused("urn:epc:tag:[umi=1]:[att=x01]:gid-96:1.2.3", 3, 20);
+    text_refused("urn:epc:tag:[att=x01]:gid-95:1.2.3", 3, 22);
+    text_refused("urn:epc:tag:[umi=1][att=x01]:", 3, 29);
+    text_refused("urn:epc:tag:[umi=1]:sgtin-96:8.0614141.812345.6789", 4, 29);
+    text_refused("urn:epc:tag:[umi=1][att=x01]:sgtin-96:3.0614141.812345.007", 7, 55);
 }
 
 /* The numbers that no known tag has, and places at the end of a text or among several one bits. */
@@ -155,6 +190,8 @@ static void screen(void) {
 
 int main(void) {
     known_tags();
+    control_fields();
+    control_places();
     places();
     reply();
     edges();

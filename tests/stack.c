@@ -40,13 +40,17 @@ static size_t in_bytes(uint8_t *line, size_t length) {
 }
 
 static size_t on_a_megabyte(void) {
-    static const char *const STRING = "urn:epc:tag:sgtin-198:3.0614141.712345.", *const SERIAL = "urn:epc:tag:sgtin-96:3.0614141.712345.";
-    const char *const begun[] = {STRING, STRING, STRING, STRING, STRING, SERIAL}, *const repeated[] = {"%2F", "A", "%", ".", "a%22", "9"};
+    static const char *const STRING = "urn:epc:tag:sgtin-198:3.0614141.712345.", *const SERIAL = "urn:epc:tag:sgtin-96:3.0614141.712345.",
+                      *const START = "urn:epc:tag:", *const FIELDS = "urn:epc:tag:[umi=1][att=xFF]:sgtin-198:3.0614141.712345.";
+    const struct {
+        const char *begun, *repeated;
+    } hostile[] = {{STRING, "%2F"}, {STRING, "A"}, {STRING, "%"}, {STRING, "."}, {STRING, "a%22"}, {SERIAL, "9"},
+                   {FIELDS, "%2F"}, {START, "[umi=1]"}, {START, "[att=x01]"}, {START, "["}};
     size_t bytes = 0;
-    for (size_t i = 0; i < 6; i++) {
-        size_t at = strlen(begun[i]);
-        memcpy(text, begun[i], at);
-        for (size_t n = 0; at < LONG; n++) text[at++] = (uint8_t)repeated[i][n % strlen(repeated[i])];
+    for (size_t i = 0; i < sizeof hostile / sizeof hostile[0]; i++) {
+        size_t at = strlen(hostile[i].begun);
+        memcpy(text, hostile[i].begun, at);
+        for (size_t n = 0; at < LONG; n++) text[at++] = (uint8_t)hostile[i].repeated[n % strlen(hostile[i].repeated)];
         bytes = most(bytes, tagcodec_text_to_bank, text, LONG);
     }
     return bytes;
