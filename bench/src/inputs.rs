@@ -1,4 +1,5 @@
-//! What is measured: tags of each scheme in every row of its table, and hostile texts of any length.
+//! What is measured: tags of each scheme in every row of its table, without control fields and with both, and hostile texts of any
+//! length.
 
 use crate::codecs::{give, TEXT_TO_BANK};
 
@@ -125,6 +126,13 @@ pub fn texts(scheme: &Scheme, count: usize, seeded: &mut Seeded) -> Vec<Vec<u8>>
     (0..count).map(|i| text(scheme, 6 + i % 7, seeded).into_bytes()).collect()
 }
 
+/// The text of a tag, with both control fields put before its name.
+pub fn with_fields(text: &[u8], seeded: &mut Seeded) -> Vec<u8> {
+    let (start, named) = text.split_at("urn:epc:tag:".len());
+    let fields = format!("[umi=1][att=x{:02X}]:", 1 + seeded.below(255));
+    [start, fields.as_bytes(), named].concat()
+}
+
 /// The bank of a text that is a tag's.
 pub fn bank_of(text: &[u8]) -> Vec<u8> {
     let mut out = [0; 64];
@@ -133,8 +141,9 @@ pub fn bank_of(text: &[u8]) -> Vec<u8> {
     out[..reply.length].to_vec()
 }
 
-/// What repeats, and before what: each text is wrong or too long only at its very end.
-pub const HOSTILE: [(&str, &str, &str); 7] = [
+/// What repeats, and before what: each text is wrong or too long only at its very end, but for the control fields, of which the second
+/// is wrong.
+pub const HOSTILE: [(&str, &str, &str); 8] = [
     ("escapes", "urn:epc:tag:sgtin-198:0.0614141.812345.", "%2F"),
     ("letters", "urn:epc:tag:sgtin-198:0.0614141.812345.", "A"),
     ("dots", "urn:epc:tag:sgtin-198:0.0614141.812345.", "."),
@@ -142,6 +151,7 @@ pub const HOSTILE: [(&str, &str, &str); 7] = [
     ("digits in a numeric string", "urn:epc:tag:gdti-113:3.0614141.12345.", "7"),
     ("digits of a serial", "urn:epc:tag:sgtin-96:3.0614141.812345.", "7"),
     ("digits of a prefix", "urn:epc:tag:sgtin-96:3.", "7"),
+    ("control fields", "urn:epc:tag:", "[umi=1]"),
 ];
 
 /// A text of about `length` bytes.

@@ -1,11 +1,12 @@
-//! The figures of docs/FIGURES.md, as tables in Markdown: each call on each scheme, long texts, and the two programs on lines.
+//! The figures of docs/FIGURES.md, as tables in Markdown: each call on each scheme, without and with control fields, long texts, and the
+//! two programs on lines.
 mod codecs;
 mod inputs;
 mod programs;
 mod timing;
 
 use codecs::{Pair, BANK_TO_TEXT, RAW_LINE, TEXT_TO_BANK};
-use inputs::{bank_of, hostile, texts, Seeded, HOSTILE, SCHEMES};
+use inputs::{bank_of, hostile, texts, with_fields, Seeded, HOSTILE, SCHEMES};
 use timing::{measure, Case, Times};
 
 /// How many tags of a scheme are gone through: too many for the processor to learn their branches.
@@ -17,15 +18,50 @@ fn case(labels: [&str; 2], calls: Pair, inputs: Vec<Vec<u8>>) -> Case {
     Case { labels: labels.map(String::from).to_vec(), inputs, calls }
 }
 
+/// The name of a scheme and its tags' texts.
+type Tags = (&'static str, Vec<Vec<u8>>);
+
+/// Each scheme's tags, the same in every run.
+fn tags() -> Vec<Tags> {
+    let mut seeded = Seeded::new();
+    SCHEMES.iter().map(|s| (s.name, texts(s, TAGS, &mut seeded))).collect()
+}
+
+/// The same with both control fields.
+fn tags_with_fields() -> Vec<Tags> {
+    let (mut tags, mut seeded) = (tags(), Seeded::new());
+    for text in tags.iter_mut().flat_map(|(_, texts)| texts) {
+        *text = with_fields(text, &mut seeded);
+    }
+    tags
+}
+
+/// A call on each scheme's texts.
+fn on_texts(call: &str, calls: Pair, tags: &[Tags]) -> Vec<Case> {
+    tags.iter().map(|(name, texts)| case([call, name], calls, texts.clone())).collect()
+}
+
+/// A call on each scheme's banks.
+fn on_banks(call: &str, calls: Pair, tags: &[Tags]) -> Vec<Case> {
+    let banks = |texts: &Vec<Vec<u8>>| texts.iter().map(|text| bank_of(text)).collect();
+    tags.iter().map(|(name, texts)| case([call, name], calls, banks(texts))).collect()
+}
+
 /// Each call on each scheme.
 fn calls() -> Vec<Case> {
-    let mut seeded = Seeded::new();
-    let tags: Vec<_> = SCHEMES.iter().map(|s| (s.name, texts(s, TAGS, &mut seeded))).collect();
-    let banks = |texts: &Vec<Vec<u8>>| texts.iter().map(|text| bank_of(text)).collect::<Vec<_>>();
-    let written = tags.iter().map(|(name, t)| case(["text_to_bank", name], TEXT_TO_BANK, t.clone()));
-    let shown = tags.iter().map(|(name, t)| case(["bank_to_text", name], BANK_TO_TEXT, banks(t)));
-    let raw = tags.iter().map(|(name, t)| case(["raw_line", name], RAW_LINE, banks(t)));
-    written.chain(shown).chain(raw).collect()
+    let tags = tags();
+    let mut cases = on_texts("text_to_bank", TEXT_TO_BANK, &tags);
+    cases.extend(on_banks("bank_to_text", BANK_TO_TEXT, &tags));
+    cases.extend(on_banks("raw_line", RAW_LINE, &tags));
+    cases
+}
+
+/// Both ways with both control fields, which the raw line leaves out.
+fn calls_with_fields() -> Vec<Case> {
+    let tags = tags_with_fields();
+    let mut cases = on_texts("text_to_bank, both fields", TEXT_TO_BANK, &tags);
+    cases.extend(on_banks("bank_to_text, both fields", BANK_TO_TEXT, &tags));
+    cases
 }
 
 /// Text to bank on long texts.
@@ -41,11 +77,10 @@ fn ratio(t: Times) -> f64 {
     t.proved / t.second
 }
 
-fn print_calls() {
-    let cases = calls();
+fn print_calls(cases: &[Case]) {
     println!("| Call | Scheme | ns a call | calls a second | second: ns a call | calls a second | ratio |");
     println!("|---|---|--:|--:|--:|--:|--:|");
-    let times = measure(&cases);
+    let times = measure(cases);
     for (case, &t) in cases.iter().zip(&times) {
         let (a, b) = (t.proved, t.second);
         print!("| {} | {a:.1} | {:.0} | ", case.labels.join(" | "), 1e9 / a);
@@ -74,7 +109,8 @@ fn main() {
         eprintln!("usage: bench FOLDER TAGLINE SECOND (bench/run calls it)");
         std::process::exit(2);
     };
-    print_calls();
+    print_calls(&calls());
+    print_calls(&calls_with_fields());
     print_growth();
     programs::print_lines(folder, tagline, second);
 }
