@@ -102,10 +102,10 @@ module _ {r : Record} {τ : Tag} (h : RecordIs r τ) {o : Outline} (e : o ≡ ou
       let n : k ≡ 16 * words (τ .scheme) - length (start ++ body) = rw (length-append start, length-numeral, content-length (τ .scheme) (h .fits .parts)) (omega (arith, words-are, bits-long)) in
       rw (zeros-are k, n, outline, ← control-kept) (simp append-assoc)
 
-  module _ {l after middle : List ℕ} {s t : Stream} (long : 64 ≤ length l) (v : Streamed l 0 (startBits o (r .control)) middle s) (w : Streamed middle (s .at) (waiting s ++ packed (o .parts) r) after t) where
+  module _ {l after : List ℕ} {t : Stream} (w : Streamed l 0 (startBits o (r .control) ++ packed (o .parts) r) after t) where
     so-far : Streamed l 0 bits after t
     unfolding bits
-    so-far = continued v body (rw body-is at w)
+    so-far = rw body-is at w
 
     pub stands : (t .at ≤ bankSize (o .words)) × (t .count ≤ 8 * (bankSize (o .words) - t .at))
     stands = omega (arith, counted (so-far .written), bits-long, bits-inside)
@@ -113,8 +113,8 @@ module _ {r : Record} {τ : Tag} (h : RecordIs r τ) {o : Outline} (e : o ≡ ou
     fill : length bits + fillOf o t ≡ 8 * bankSize (o .words)
     fill = omega (arith, counted (so-far .written), bits-long, bits-inside)
 
-    pub takes-fill : Takes t (fillOf o t) 0 (length after)
-    takes-fill =
+    pub takes-fill : 64 ≤ length l → Takes t (fillOf o t) 0 (length after)
+    takes-fill long =
         let few : fillOf o t ≤ 57 = omega (arith, fill, bits-long, words-are, sizes (τ .scheme) .whole, few-zeros (τ .scheme)) in
         takes so-far (fillOf o t) 0 few (pow-pos (fillOf o t)) (omega (arith, fill, few-words))
 

@@ -119,17 +119,6 @@ fn put_body(out: &mut [u8], s: Stream, body: Body, tag: Record) -> Stream
     }
 }
 
-// All parts after the header.
-fn put_parts(out: &mut [u8], s: Stream, parts: Parts, tag: Record) -> Stream
-    requires { ⌜ Room s 224 (length (now out)) × Keeps parts tag ⌝ }
-    ensures { λ r. ⌜ Streamed (now (out .entry)) (s .at) (waiting s ++ packed parts tag) (now (out .exit)) r ⌝ }
-{
-    match parts {
-        Parts::F(body) => put_body(out, s, body, tag),
-        Parts::Integers(a, b, c) => put_integers(out, s, tag, a, b, c),
-    }
-}
-
 // The control word, with the word count in its upper five bits, umi in the next and att in the lower eight; and the header.
 fn put_start(out: &mut [u8], outline: Outline, control: ControlFields) -> Stream
     requires { ⌜ (bankRoom ≤ length (now out)) × (outline .words < 32) × ControlFits control ⌝ }
@@ -145,6 +134,25 @@ fn put_start(out: &mut [u8], outline: Outline, control: ControlFields) -> Stream
     bits::push(out, behind, 8, outline.header as u64)
 }
 
+// The control word, the header and all parts. What parts there are is asked first, so that a scheme's numbers are known from there on.
+fn put_parts(out: &mut [u8], outline: Outline, tag: Record) -> Stream
+    requires { ⌜ (bankRoom ≤ length (now out)) × (outline .words < 32) × ControlFits (tag .control) × Keeps (outline .parts) tag ⌝ }
+    ensures { λ r. ⌜ Streamed (now (out .entry)) 0 (startBits outline (tag .control) ++ packed (outline .parts) tag) (now (out .exit)) r ⌝ }
+{
+    let control = tag.control;
+    let parts = outline.parts;
+    match parts {
+        Parts::F(body) => {
+            let start = put_start(out, outline, control);
+            put_body(out, start, body, tag)
+        }
+        Parts::Integers(a, b, c) => {
+            let start = put_start(out, outline, control);
+            put_integers(out, start, tag, a, b, c)
+        }
+    }
+}
+
 // Writes the bank of the tag from the output's start on, and returns its length.
 pub fn write(tag: Record, out: &mut [u8]) -> usize
     requires { ⌜ bankRoom ≤ length (now out) ⌝ }
@@ -153,10 +161,7 @@ pub fn write(tag: Record, out: &mut [u8]) -> usize
 {
     let s = tag.scheme;
     let outline = about(s);
-    let control = tag.control;
-    let start = put_start(out, outline, control);
-    let parts = outline.parts;
-    let end = put_parts(out, start, parts, tag);
+    let end = put_parts(out, outline, tag);
     // zeros to the end of the last word: the fill, and table B's 24
     let n = size(outline.words);
     bits::push(out, end, 8 * (n - end.at) - end.count, 0);
