@@ -6,5 +6,6 @@ pub mod Parts
 pub mod Copies
 pub mod Pairs
 pub mod Alls
+pub mod Fours
 pub mod Starts
 pub mod Joins

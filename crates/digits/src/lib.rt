@@ -3,7 +3,7 @@
 ghost use mathlib.Core.Bool.{cond};
 ghost use mathlib.Core.Path.{_≡_};
 ghost use Prim.Native.Nat.{_+_, _*_, _/_, _%_, _≤_, _<_};
-ghost use lib.ListN.{length, drop};
+ghost use lib.ListN.{length, take, drop};
 ghost use Rattle.numeral.specs.Numeral.{value, numeral, size, shortest, splice};
 ghost use Rattle.rules.specs.Bytes.{all, digitsText, hexDigit, hexText};
 ghost use Rattle.rules.specs.TextNumbers.{after, isDigit};
@@ -86,19 +86,44 @@ pub fn put_hex(out: &mut [u8], at: usize, src: &[u8])
     }
 }
 
-// Whether a text begins with `start`.
+// The number in four bytes, from index i on: one load.
+fn four(bytes: &[u8], i: usize) -> u64
+    requires { ⌜ i + 4 ≤ length (now bytes) ⌝ }
+    ensures { λ r. ⌜ r ≡ value 256 (take 4 (drop i (now (bytes .entry)))) ⌝ }
+{
+    let upper = bytes[i] as u64 * 256 + bytes[i + 1] as u64;
+    let lower = bytes[i + 2] as u64 * 256 + bytes[i + 3] as u64;
+    upper * 65536 + lower
+}
+
+// Whether a text goes on, from index `from` on, with the bytes of `start` from there on.
+fn agrees(text: &[u8], start: &[u8], from: usize) -> bool
+    requires { ⌜ (from ≤ length (now start)) × (length (now start) ≤ length (now text)) ⌝ }
+    ensures { λ r. ⌜ r ≡ begun (after (drop from (now (start .entry))) (drop from (now (text .entry)))) ⌝ }
+{
+    for i in from..start.len() {
+        if text[i] != start[i] {
+            return false;
+        }
+    }
+    true
+}
+
+// Whether a text begins with `start`: four bytes are compared at once, as long as there are four.
 pub fn begins(text: &[u8], start: &[u8]) -> bool
     ensures { λ r. ⌜ r ≡ begun (after (now (start .entry)) (now (text .entry))) ⌝ }
 {
     if text.len() < start.len() {
         return false;
     }
-    for i in 0..start.len() {
-        if text[i] != start[i] {
+    let mut i = 0;
+    while 4 <= start.len() - i {
+        if four(text, i) != four(start, i) {
             return false;
         }
+        i += 4;
     }
-    true
+    agrees(text, start, i)
 }
 
 // Whether c is a decimal digit.

@@ -3,8 +3,9 @@
 use rules::Table;
 ghost use mathlib.Core.Path.{_≡_};
 ghost use Prim.Native.Nat.{_≤_, _<_};
+ghost use lib.ListN.{getD};
 ghost use Rattle.rules.specs.Schemes.{partition, rowAt, exact as isExact, assetBits};
-ghost use Rattle.scheme.specs.Rows.{prefixOf, referenceOf};
+ghost use Rattle.scheme.specs.Rows.{cellAt, prefixOf, referenceOf};
 
 // The columns of the partition tables, indexed by P, 0 to 6.
 const PREFIX_BITS: [usize; 7] = [40, 37, 34, 30, 27, 24, 20];
@@ -33,10 +34,37 @@ const CPI_BITS: [usize; 7] = [11, 14, 17, 21, 24, 27, 31];
 
 const CPI_DIGITS: [usize; 7] = [3, 4, 5, 6, 7, 8, 9];
 
+// The entry of a column at p. The arms are constants of the column, so that no array is built.
+fn entry(column: [usize; 7], p: usize) -> usize
+    requires { ⌜ p < 7 ⌝ }
+    ensures { λ r. ⌜ r ≡ getD column p 0 ⌝ }
+{
+    match p {
+        0 => column[0],
+        1 => column[1],
+        2 => column[2],
+        3 => column[3],
+        4 => column[4],
+        5 => column[5],
+        _ => column[6],
+    }
+}
+
 // A cell of a row: bits and digits.
 pub struct Cell {
     pub bits: usize,
     pub digits: usize,
+}
+
+// The cell at p, in a column of bits and one of digits.
+fn cell_at(bits: [usize; 7], digits: [usize; 7], p: usize) -> Cell
+    requires { ⌜ p < 7 ⌝ }
+    ensures { λ r. ⌜ r ≡ cellAt bits digits p ⌝ }
+{
+    Cell {
+        bits: entry(bits, p),
+        digits: entry(digits, p),
+    }
 }
 
 // The partition value of a company prefix.
@@ -52,10 +80,7 @@ pub fn prefix(p: usize) -> Cell
     requires { ⌜ p < 7 ⌝ }
     ensures { λ r. ⌜ r ≡ prefixOf (rowAt p) ⌝ }
 {
-    Cell {
-        bits: PREFIX_BITS[p],
-        digits: PREFIX_DIGITS[p],
-    }
+    cell_at(PREFIX_BITS, PREFIX_DIGITS, p)
 }
 
 // The reference of a row in one of the tables A to D, or in cpi-96's own.
@@ -64,26 +89,11 @@ pub fn reference(t: Table, p: usize) -> Cell
     ensures { λ r. ⌜ r ≡ referenceOf t (rowAt p) ⌝ }
 {
     match t {
-        Table::A => Cell {
-            bits: A_BITS[p],
-            digits: A_DIGITS[p],
-        },
-        Table::B => Cell {
-            bits: B_BITS[p],
-            digits: B_DIGITS[p],
-        },
-        Table::C => Cell {
-            bits: C_BITS[p],
-            digits: C_DIGITS[p],
-        },
-        Table::D => Cell {
-            bits: D_BITS[p],
-            digits: D_DIGITS[p],
-        },
-        Table::Cpi => Cell {
-            bits: CPI_BITS[p],
-            digits: CPI_DIGITS[p],
-        },
+        Table::A => cell_at(A_BITS, A_DIGITS, p),
+        Table::B => cell_at(B_BITS, B_DIGITS, p),
+        Table::C => cell_at(C_BITS, C_DIGITS, p),
+        Table::D => cell_at(D_BITS, D_DIGITS, p),
+        Table::Cpi => cell_at(CPI_BITS, CPI_DIGITS, p),
     }
 }
 
@@ -105,5 +115,5 @@ pub fn asset(p: usize) -> usize
     requires { ⌜ p < 7 ⌝ }
     ensures { λ r. ⌜ r ≡ assetBits (rowAt p) ⌝ }
 {
-    E_BITS[p]
+    entry(E_BITS, p)
 }

@@ -2,6 +2,7 @@
 use Prim.Native.Nat.{ℕ, zero, suc, _+_, _≤_}
 use mathlib.Core.Path.{_≡_, refl, sym, ap}
 use mathlib.Core.List.{List, [], _∷_, _++_}
+use mathlib.Core.Logic.{_⊎_, ⊎-elim}
 use native.Mathlib.Omega.{arith}
 use lib.Dec.{lit≤}
 use lib.ListN.{length, length-append}
@@ -29,17 +30,13 @@ umi-length zero = lit≤ tt
 umi-length (suc v) = lit≤ tt
 
 -- the colon, if a field stands
-module _ (c : ControlFields) {s t : List ℕ} {at n : ℕ} (h : Puts (fieldsText c) at s n t) where
-  pub none-put : n ≡ at → Puts (controlText c) at s at t
-  none-put e = go (fieldsText c) refl (h .end)
-    where
-      go : (l : List ℕ) → fieldsText c ≡ l → n ≡ at + length l → Puts (closed l) at s at t
-      go [] q r = rw (q, e) at h
-      go (x ∷ xs) q r = absurd (omega arith)
+pub none-stands : (c : ControlFields) → c .umi ≡ 0 → c .att ≡ 0 → controlText c ≡ []
+none-stands c u a = rw (u, a)
 
-  pub some-put : ¬ (n ≡ at) → {u : List ℕ} {m : ℕ} → Puts (colon ∷ []) n t m u → Puts (controlText c) at s m u
-  some-put d {u} {m} k = go (fieldsText c) refl (h .end)
-    where
-      go : (l : List ℕ) → fieldsText c ≡ l → n ≡ at + length l → Puts (closed l) at s m u
-      go [] q r = absurd (d (omega arith))
-      go (x ∷ xs) q r = join (rw q at h) k
+pub one-stands : (c : ControlFields) → (¬ (c .umi ≡ 0)) ⊎ (¬ (c .att ≡ 0)) → controlText c ≡ fieldsText c ++ colon ∷ []
+one-stands c w = go (c .umi) (c .att) w
+  where
+    go : (u a : ℕ) → (¬ (u ≡ 0)) ⊎ (¬ (a ≡ 0)) → closed (standing Umi u ++ standing Att a) ≡ (standing Umi u ++ standing Att a) ++ colon ∷ []
+    go zero zero w = absurd (⊎-elim (λ n. n refl) (λ n. n refl) w)
+    go zero (suc a) w = refl
+    go (suc u) a w = refl

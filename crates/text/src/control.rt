@@ -49,10 +49,10 @@ pub fn put_control(out: &mut [u8], at: usize, control: ControlFields) -> usize
     ensures { λ r. ⌜ Puts (controlText control) at (now (out .entry)) r (now (out .exit)) ⌝ }
     ensures { λ r. ⌜ r ≤ at + 17 ⌝ }
 {
-    let p = put_field(out, at, ControlName::Umi, control.umi);
-    let end = put_field(out, p, ControlName::Att, control.att);
-    if end == at {
+    if control.umi == 0 && control.att == 0 {
         return at;
     }
+    let p = put_field(out, at, ControlName::Umi, control.umi);
+    let end = put_field(out, p, ControlName::Att, control.att);
     put_bytes(out, end, b":")
 }

@@ -1,5 +1,5 @@
 -- `asset` meets its contract: its array is the column of table E.
-use mathlib.Core.Path.{refl}
+use mathlib.Core.Path.{refl, _∙_}
 use borrow.Author.Needs.{needs}
 use Rattle.rules.specs.Schemes.{rows, assetBits}
 use Rattle.scheme.proofs.Columns.{column}
@@ -8,7 +8,7 @@ use Rattle.scheme.proofs.rows.asset.Tie as tie
 
 returns : tie.Need-returns
 unfolding rows
-returns c = column assetBits _ (c .args .p) refl refl
+returns c = c .entry .ensures ∙ column assetBits _ (c .before .args .p) refl refl
 
 pub asset-spec : {M : Type 1} → statement M
-asset-spec = tie.close (tie.spec (λ c. search needs) (λ c. search needs) returns)
+asset-spec = tie.close (tie.spec (λ c κs. search needs) returns)

@@ -8,7 +8,7 @@ use Rattle.scheme.proofs.rows.prefix.Tie as tie
 
 returns : tie.Need-returns
 unfolding rows
-returns c = cells prefixBits prefixDigits _ _ (c .args .p) refl refl refl refl
+returns c = cells prefixBits prefixDigits _ _ (c .before .args .p) _ (c .cell-at .ensures) refl refl refl refl
 
 pub prefix-spec : {M : Type 1} → statement M
-prefix-spec = tie.close (tie.spec (λ c. search needs) (λ c. search needs) (λ c. search needs) (λ c. search needs) returns)
+prefix-spec = tie.close (tie.spec (λ c κs. search needs) returns)
