@@ -3,9 +3,7 @@ use Prim.Native.Nat.{ℕ, zero, suc, _+_, _-_, _*_, _≤_, _<_}
 use mathlib.Core.Path.{_≡_, refl, sym, ap, _∙_}
 use mathlib.Core.List.{List, [], _∷_, _++_, append-assoc}
 use native.Mathlib.Omega.{arith}
-use native.Mathlib.Nat.{add-zero}
 use native.Mathlib.Numerals.{add-one}
-use lib.Dec.{lit<}
 use lib.ListN.{length, drop, replicate, length-append, length-replicate, replicate-append-replicate}
 use lib.Pow.{pow-pos}
 use Rattle.numeral.specs.Numeral.{numeral, gather}

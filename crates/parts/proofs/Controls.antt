@@ -2,20 +2,19 @@
 use Prim.Native.Char.{code}
 use Prim.Native.Nat.{ℕ, zero, suc, _+_, _-_, _*_, _/_, _%_, _≤_, _<_}
 use mathlib.Core.Path.{_≡_, refl, sym, _∙_, ap}
-use mathlib.Core.List.{List, [], _∷_, _++_}
-use mathlib.Core.Option.{Option, none, some}
+use mathlib.Core.List.{List, _∷_, _++_}
 use mathlib.Core.Bool.{Bool, true, false, _&&_, cond}
 use native.Mathlib.Omega.{arith}
 use native.Mathlib.Nat.{add-zero}
 use lib.Dec.{ltb}
-use lib.ListN.{length, getD, take, drop, length-append, length-drop}
+use lib.ListN.{length, getD, take, drop, length-drop}
 use lib.Seq.{take-all, drop-cons, getD-drop}
-use borrow.Author.Tests.{lt-ltb, le-ltb, ltb-true}
+use borrow.Author.Tests.{lt-ltb, ltb-true}
 use Rattle.rules.specs.Bytes.{bytes, hexDigit}
 use Rattle.rules.specs.declared.ControlName.{ControlName}
 use Rattle.rules.specs.declared.ControlName.the-variants.{Umi, Att}
-use Rattle.rules.specs.ControlFields.{most, fieldText, standing}
-use Rattle.rules.specs.TextNumbers.{after, valueIn}
+use Rattle.rules.specs.ControlFields.{most, fieldText}
+use Rattle.rules.specs.TextNumbers.{after}
 use Rattle.rules.proofs.Starts.{after-is, after-of}
 use Rattle.rules.proofs.ControlTexts.{Absent, value-of}
 use Rattle.digits.specs.Digits.{hexValue}

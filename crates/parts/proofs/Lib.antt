@@ -1,4 +1,4 @@
--- Laws: of names, then of parts.
+-- Laws: of names, of control fields, then of parts.
 pub mod Runs
 pub mod Tails
 pub mod Keys

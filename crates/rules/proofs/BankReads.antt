@@ -4,11 +4,11 @@ use mathlib.Core.Path.{_≡_, refl, sym, _∙_, ap}
 use mathlib.Core.Logic.{_↔_, Iff·rfl, Iff·trans}
 use mathlib.Core.List.{List, [], _∷_, _++_}
 use mathlib.Core.Option.{Option, some}
-use mathlib.Core.Bool.{Bool, true, false, _&&_, not, cond}
+use mathlib.Core.Bool.{Bool, true, false, not, cond}
 use native.Mathlib.Omega.{arith}
 use native.Mathlib.Nat.{le-trans, pow-le-pow-right}
 use lib.Dec.{T, ltb, eqb, ltb→lt, eqb→eq, lit<}
-use lib.ListN.{length, getD, take, drop, replicate, length-take, length-drop}
+use lib.ListN.{length, getD, take, drop, length-take, length-drop}
 use lib.Seq.{drop-drop, length-take-le, drop-cons, getD-drop}
 use Rattle.numeral.specs.Numeral.{value, Digits, spread}
 use Rattle.numeral.proofs.Values.{digits-take, digits-drop, value-lt}
@@ -26,7 +26,7 @@ use Rattle.rules.specs.Coding.{binary, coded, controlBits, at, wordCount
 use Rattle.rules.specs.BankNumbers.{allZero, headed, codeIn, fieldsIn, wordsIn, controlIn, controlFields, tagOfBank}
 use Rattle.rules.specs.Raw.{rawText, rawOfBank}
 use Rattle.rules.specs.Conditions.{Rule, rule, OfBank, rowIn, zerosFrom, MustBeZero, OneAfter, FirstOne, NoRow, LargePrefix, LargeReference, WrongLast, LastAt, rawRules, bankRules}
-use Rattle.rules.proofs.Tests.{both, apart, all-at}
+use Rattle.rules.proofs.Tests.{apart, all-at}
 use Rattle.rules.proofs.Answers.{Gives, Decides, decided, Reads, settled-demand, settled-at, settled-given, settled-as, step, check, reads-map, reads-bind, done, same, alike, reads-covers}
 use Rattle.rules.proofs.ControlRules.{Short, enough, enough-is, settled-9, settled-10, settled-bit}
 use Rattle.rules.proofs.Codes.{content, sizes, headed-of}

@@ -1,18 +1,15 @@
 -- The length and the control word of a bank, each of the rules 9 to 12 by itself: when it refuses, and where.
-use Prim.Native.Nat.{ℕ, _+_, _*_, _≤_, _<_}
+use Prim.Native.Nat.{ℕ, _≤_, _<_}
 use mathlib.Core.Path.{_≡_, refl}
 use mathlib.Core.Logic.{_⊎_, inl, inr}
 use mathlib.Core.List.{List}
 use mathlib.Core.Bool.{Bool, true, false, _&&_, not}
 use native.Mathlib.Omega.{arith}
-use lib.Dec.{T, T-not, leb, ltb, eqb, leb→le, ltb→lt, nltb→le, nleb→lt, eqb→eq}
+use lib.Dec.{T, leb, ltb, eqb, leb→le, ltb→lt, nltb→le, nleb→lt, eqb→eq}
 use lib.ListN.{length}
-use Rattle.numeral.specs.Numeral.{spread}
-use Rattle.numeral.proofs.Spreads.{length-spread}
-use Rattle.numeral.proofs.Fields.{field-more}
 use Rattle.rules.specs.Answers.{demand}
-use Rattle.rules.specs.Coding.{at, wordCount, bankSize}
-use Rattle.rules.proofs.Tests.{both, and, eq→eqb, apart}
+use Rattle.rules.specs.Coding.{wordCount, bankSize}
+use Rattle.rules.proofs.Tests.{both, apart}
 use Rattle.rules.proofs.Answers.{Settled, settled-demand}
 
 -- 9: the words are not all there

@@ -1,21 +1,19 @@
 -- The control fields of a text: those that stand are found, one after the other, and nothing else is; 20 refuses the rest.
-use Prim.Native.Nat.{ℕ, zero, suc, _+_, _/_, _%_, _≤_, _<_}
+use Prim.Native.Nat.{ℕ, zero, suc, _/_, _%_, _≤_, _<_}
 use mathlib.Core.Path.{_≡_, refl, sym, _∙_, ap}
-use mathlib.Core.Logic.{_⊎_, inl, inr, ⊎-elim}
-use mathlib.Core.List.{List, [], _∷_, _++_, append-assoc}
+use mathlib.Core.Logic.{⊎-elim}
+use mathlib.Core.List.{List, _++_}
 use mathlib.Core.Option.{Option, none, some}
-use mathlib.Core.Bool.{Bool, true, false, cond}
 use native.Mathlib.Omega.{arith}
 use lib.Dec.{eqb, eqb→eq}
 use lib.ListN.{length, getD, drop}
 use Rattle.numeral.proofs.Arithmetic.{lt-or-ge}
 use Rattle.rules.specs.Bytes.{upto, hexDigits, hexDigit}
-use Rattle.rules.specs.declared.ControlFields.{ControlFields}
 use Rattle.rules.specs.declared.ControlName.{ControlName}
 use Rattle.rules.specs.declared.ControlName.the-variants.{Umi, Att}
-use Rattle.rules.specs.ControlFields.{most, fieldText, standing, fieldsText, ControlFits, bracket}
+use Rattle.rules.specs.ControlFields.{most, fieldText, standing, bracket}
 use Rattle.rules.specs.TextNumbers.{after, Valued, either, valued, valueIn}
-use Rattle.rules.specs.Conditions.{Starts, IsField, valueOf}
+use Rattle.rules.specs.Conditions.{Starts}
 use Rattle.rules.proofs.Tests.{below-is}
 use Rattle.rules.proofs.Answers.{Gives}
 use Rattle.rules.proofs.Starts.{after-is, after-of}

@@ -10,6 +10,7 @@ pub mod Reading
 pub mod Starts
 pub mod ControlTexts
 pub mod ControlReads
+pub mod ControlFaults
 pub mod TextReads
 pub mod Numbers
 pub mod Groups

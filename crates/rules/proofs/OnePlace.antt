@@ -14,7 +14,7 @@ use Rattle.rules.specs.declared.Parts.the-variants.{F, Integers}
 use Rattle.rules.specs.Schemes.{about}
 use Rattle.rules.specs.Conditions.{fromFilter, fromPrefix, fromReference, fromLast, Begins, NameAt, PartAt, OfBank, FirstOne, LastAt, zerosFrom, textRules, rawRules, bankRules}
 use Rattle.rules.proofs.Answers.{OnePlace}
-use Rattle.rules.proofs.ControlReads.{one-control, one-fault}
+use Rattle.rules.proofs.ControlFaults.{one-control, one-fault}
 use Rattle.rules.proofs.TextReads.{of-text}
 use Rattle.rules.proofs.BankReads.{of-bank}
 

@@ -28,7 +28,7 @@ use Rattle.rules.proofs.Answers.{Settled, first-of}
 use Rattle.rules.proofs.Rows.{narrow-row}
 use Rattle.rules.proofs.Codes.{sizes}
 use Rattle.rules.proofs.Reading.{PartIs, part-settled, LastIs, lastRules, last-reads, some-number}
-use Rattle.rules.proofs.ControlReads.{behindBoth, fields}
+use Rattle.rules.proofs.ControlFaults.{behindBoth, fields}
 use Rattle.rules.proofs.BankReads.{at-lt, bank-reads, raw-reads}
 use Rattle.rules.proofs.Lengths.{longest, part-length, Within, parts-within, fields-length, characters-few, left, measured}
 

@@ -1,6 +1,6 @@
 -- A text is refused by the first rule that applies; taken, it is the text of its tag, and of no other.
 use Prim.Native.Nat.{ℕ, _+_}
-use mathlib.Core.Path.{_≡_, refl, sym, _∙_, ap}
+use mathlib.Core.Path.{_≡_, refl, _∙_, ap}
 use mathlib.Core.Logic.{_↔_}
 use mathlib.Core.List.{List, [], _∷_, _++_}
 use mathlib.Core.Option.{Option, none, some}
@@ -30,7 +30,8 @@ use Rattle.rules.proofs.Rows.{by-count}
 use Rattle.rules.proofs.Forms.{formed-at}
 use Rattle.rules.proofs.Reading.{partRules, parts-reads}
 use Rattle.rules.proofs.Starts.{after-is, after-of, Begun, after-decides, begins-behind}
-use Rattle.rules.proofs.ControlReads.{controlled-of, ControlIs, control-settled, one-control}
+use Rattle.rules.proofs.ControlReads.{controlled-of}
+use Rattle.rules.proofs.ControlFaults.{ControlIs, control-settled, one-control}
 
 -- What is right is given: the parts, if none but the last may hold a dot.
 abbrev Dotless : Form → Type 0

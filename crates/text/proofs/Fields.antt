@@ -1,18 +1,18 @@
 -- The control fields, written one after the other, and the colon behind them.
-use Prim.Native.Nat.{ℕ, zero, suc, _+_, _≤_}
-use mathlib.Core.Path.{_≡_, refl, sym, ap}
+use Prim.Native.Nat.{ℕ, zero, suc, _≤_}
+use mathlib.Core.Path.{_≡_, refl}
 use mathlib.Core.List.{List, [], _∷_, _++_}
 use mathlib.Core.Logic.{_⊎_, ⊎-elim}
 use native.Mathlib.Omega.{arith}
 use lib.Dec.{lit≤}
-use lib.ListN.{length, length-append}
+use lib.ListN.{length}
 use Rattle.rules.specs.declared.ControlFields.{ControlFields}
-use Rattle.rules.specs.Bytes.{bytes, colon, hexText}
+use Rattle.rules.specs.Bytes.{bytes, colon}
 use Rattle.rules.specs.declared.ControlName.{ControlName}
 use Rattle.rules.specs.declared.ControlName.the-variants.{Umi, Att}
 use Rattle.rules.specs.ControlFields.{fieldText, standing, fieldsText, closed, controlText}
 use Rattle.digits.specs.Pieces.{Puts}
-use Rattle.digits.proofs.Joins.{join, nothing-put}
+use Rattle.digits.proofs.Joins.{nothing-put}
 
 -- a field that is zero, and one that is not
 pub zero-put : (f : ControlName) (v : ℕ) (s : List ℕ) (at : ℕ) → v ≡ 0 → Puts (standing f v) at s at s

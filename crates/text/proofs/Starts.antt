@@ -14,7 +14,7 @@ use Rattle.rules.specs.TextNumbers.{after, Controlled, controlFieldsIn, Named, 
 use Rattle.rules.specs.Conditions.{Begins, FaultAt, ControlledBy}
 use Rattle.rules.proofs.Answers.{Gives, Settled}
 use Rattle.rules.proofs.Starts.{after-is, begins-behind}
-use Rattle.rules.proofs.ControlReads.{control-settled}
+use Rattle.rules.proofs.ControlFaults.{control-settled}
 use Rattle.rules.proofs.TextReads.{named-is}
 use Rattle.scheme.specs.Records.{refusal, readingOf}
 use Rattle.parts.specs.declared.control.Controlled.the-variants.{By, Wrong}

@@ -4,7 +4,6 @@ use native.Mathlib.Omega.{arith}
 use denote.Ref.{now}
 use borrow.Author.Needs.{needs}
 use Rattle.digits.proofs.Joins.{nothing-put}
-use Rattle.rules.specs.Bytes.{bytes}
 use Rattle.rules.proofs.BankReads.{at-lt}
 use Rattle.bank.proofs.RawTexts.{no-afi, some-afi}
 use Rattle.bank.proofs.raw.put_afi.Statement.{statement}

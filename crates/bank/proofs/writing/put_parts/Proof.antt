@@ -1,10 +1,7 @@
 -- In each arm the parts are known, and so the limits of the record's fields; the start leaves room for all of them.
-use Prim.Native.Nat.{_≤_}
 use native.Mathlib.Omega.{arith}
-use lib.ListN.{length}
 use borrow.Author.Needs.{needs}
 use Rattle.bits.proofs.Streams.{continued}
-use Rattle.bank.specs.Writing.{packed}
 use Rattle.bank.proofs.PackedBanks.{start-leaves}
 use Rattle.bank.proofs.writing.put_parts.Statement.{statement}
 use Rattle.bank.proofs.writing.put_parts.Tie as tie

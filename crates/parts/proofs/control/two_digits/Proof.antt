@@ -1,6 +1,4 @@
 -- Each digit has a value below 16, or is none.
-use mathlib.Core.Path.{sym, _∙_}
-use native.Mathlib.Omega.{arith}
 use borrow.Author.Needs.{needs}
 use borrow.Author.Tests.{lt-ltb, le-ltb}
 use Rattle.parts.proofs.control.two_digits.Statement.{statement}
