@@ -14,8 +14,11 @@ const TAGS: usize = 2100;
 
 const LENGTHS: [usize; 5] = [100, 1_000, 10_000, 100_000, 1_000_000];
 
+/// The inputs go one behind the other in memory, and stay: a row must not depend on where those of an earlier table stood.
 fn case(labels: [&str; 2], calls: Pair, inputs: Vec<Vec<u8>>) -> Case {
-    Case { labels: labels.map(String::from).to_vec(), inputs, calls }
+    let mut rest: &[u8] = inputs.concat().leak();
+    let lent = inputs.iter().map(|input| rest.split_off(..input.len()).expect("all inputs are in it"));
+    Case { labels: labels.map(String::from).to_vec(), inputs: lent.collect(), calls }
 }
 
 /// The name of a scheme and its tags' texts.

@@ -6,7 +6,7 @@ use std::time::Instant;
 /// One line of a table: a call of either codec on the same inputs.
 pub struct Case {
     pub labels: Vec<String>,
-    pub inputs: Vec<Vec<u8>>,
+    pub inputs: Vec<&'static [u8]>,
     pub calls: Pair,
 }
 
