@@ -15,10 +15,6 @@ abbrev pub Gives : {X : Type 0} → (X → Type 0) → Option X → Type 0
 Gives Right none = Unit
 Gives Right (some x) = Right x
 
-pub gives-map : {X : Type 0} (R S : X → Type 0) (o : Option X) → Gives R o → ((x : X) → R x → S x) → Gives S o
-gives-map R S none h f = tt
-gives-map R S (some x) h f = f x h
-
 -- a reader gives nothing exactly where P holds
 abbrev pub Decides : {X : Type 0} → Type 0 → (X → Type 0) → Option X → Type 0
 Decides P Right none = P

@@ -128,9 +128,6 @@ pub controlled-of : (i : ℕ) (c : ControlFields) (u : List ℕ) → ControlFits
     → controlFieldsIn i (controlText c ++ u) ≡ taken (record { control = c; next = i + length (controlText c); rest = u })
 controlled-of i c u fits shut = go (fieldsText c) refl
   where
-    w : List ℕ
-    w = colon ∷ u
-
     no-bracket : ¬ (Starts bracket (colon ∷ u))
     no-bracket s = let d : _≡_ {A = ℕ} 58 91 = ap (λ l. getD l 0 0) (s .1) in omega arith
 
