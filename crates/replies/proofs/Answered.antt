@@ -8,19 +8,20 @@ use lib.Seq.{take-at}
 use borrow.Author.Tests.{le-leb}
 use Rattle.rules.specs.Answers.{Answer, refused, taken, _>>=_}
 use Rattle.rules.specs.Conditions.{Rule, textRules, bankRules, rawRules}
-use Rattle.rules.specs.Grammar.{Tag, TagText, textOf, start}
+use Rattle.rules.specs.Grammar.{Tag, TagText, textOf}
 use Rattle.rules.specs.Coding.{bankOf, bankSize, wordCount}
 use Rattle.rules.specs.TextNumbers.{tagOfText}
 use Rattle.rules.specs.BankNumbers.{tagOfBank}
 use Rattle.rules.specs.Raw.{rawText, rawOfBank}
 use Rattle.rules.specs.Calls.{call, lent, bankRoom, textRoom, textToBank, bankToText, rawLine}
 use Rattle.rules.proofs.Answers.{Reads}
-use Rattle.rules.proofs.Banks.{Shown, bank-length}
+use Rattle.rules.proofs.Banks.{Shown}
 use Rattle.rules.proofs.BankReads.{bank-reads, raw-reads}
 use Rattle.rules.proofs.TextReads.{tag-reads}
 use Rattle.rules.proofs.Lengths.{bank-size, text-length}
 use Rattle.codec.specs.Answers.{answered}
 use Rattle.codec.specs.declared.Answer.the-variants.{Written, Refused}
+use Rattle.codec.proofs.OneAnswer.{text-full, bank-full}
 use Rattle.replies.specs.Replies.{replyB, replyN, ofText}
 
 -- no refusal has number 0, and nothing that is taken is empty
@@ -57,13 +58,6 @@ module _ (form : Tag → List ℕ) (full : (τ : Tag) → 0 < length (form τ)) 
   tag-refused (refused m q) n p e = let f : m ≡ n = cc in let g : q ≡ p = cc in rw (f, g)
   tag-refused (taken τ) n p e = let z : _≡_ {A = ℕ} 0 1 = cc in absurd (omega arith)
 
-some-bytes : (τ : Tag) → 0 < length (bankOf τ)
-some-bytes τ = omega (arith, bank-length τ)
-
-some-text : (τ : Tag) → 0 < length (textOf τ)
-unfolding textOf start
-some-text τ = omega arith
-
 raw-firm : (b : List ℕ) → Firm (rawOfBank b)
 raw-firm b = go (rawOfBank b) (raw-reads b)
   where
@@ -79,24 +73,24 @@ module _ (t out e : List ℕ) (n : ℕ) (l : bankRoom ≤ length out) where
   pub bank-written : answered (Written n) e ≡ textToBank t out → (n ≤ bankRoom) × (n ≡ length (take n e)) × (ofText (tagOfText t) ≡ replyB (take n e))
   unfolding textToBank
   bank-written h =
-      let (w, a, c, o) = was-written bankRoom out (tagOfText t >>= λ τ. taken (bankOf τ)) n e (firm bankOf some-bytes (textRules t) (TagText t) (tagOfText t) (tag-reads t)) l h in
-      let (τ, i, f) = tag-taken bankOf some-bytes (tagOfText t) w a in
+      let (w, a, c, o) = was-written bankRoom out (tagOfText t >>= λ τ. taken (bankOf τ)) n e (firm bankOf bank-full (textRules t) (TagText t) (tagOfText t) (tag-reads t)) l h in
+      let (τ, i, f) = tag-taken bankOf bank-full (tagOfText t) w a in
       let p : take n e ≡ w = ap (take n) o ∙ take-at w (drop (length w) out) n (sym c) in
       (omega (arith, c, ap length f, bank-size τ), c ∙ ap length (sym p), ap ofText i ∙ ap replyB (f ∙ sym p))
 
   pub text-refused : (p : ℕ) → answered (Refused n p) e ≡ textToBank t out → ofText (tagOfText t) ≡ replyN n
   unfolding textToBank
   text-refused p h =
-      let (a, o) = was-refused bankRoom out (tagOfText t >>= λ τ. taken (bankOf τ)) n e (firm bankOf some-bytes (textRules t) (TagText t) (tagOfText t) (tag-reads t)) l p h in
-      ap ofText (tag-refused bankOf some-bytes (tagOfText t) n p a)
+      let (a, o) = was-refused bankRoom out (tagOfText t >>= λ τ. taken (bankOf τ)) n e (firm bankOf bank-full (textRules t) (TagText t) (tagOfText t) (tag-reads t)) l p h in
+      ap ofText (tag-refused bankOf bank-full (tagOfText t) n p a)
 
 module _ (b out e : List ℕ) (n : ℕ) (l : textRoom ≤ length out) where
   pub text-written : answered (Written n) e ≡ bankToText b out
       → (τ : Tag) × (tagOfBank b ≡ taken τ) × (n ≡ length (textOf τ)) × (n ≤ 116) × (e ≡ textOf τ ++ drop (length (textOf τ)) out)
   unfolding bankToText
   text-written h =
-      let (w, a, c, o) = was-written textRoom out (tagOfBank b >>= λ τ. taken (textOf τ)) n e (firm textOf some-text (bankRules b) (Shown b) (tagOfBank b) (bank-reads b)) l h in
-      let (τ, i, f) = tag-taken textOf some-text (tagOfBank b) w a in
+      let (w, a, c, o) = was-written textRoom out (tagOfBank b >>= λ τ. taken (textOf τ)) n e (firm textOf text-full (bankRules b) (Shown b) (tagOfBank b) (bank-reads b)) l h in
+      let (τ, i, f) = tag-taken textOf text-full (tagOfBank b) w a in
       let r = rw i at (bank-reads b) in
       let k : length (textOf τ) ≤ 116 = text-length (textOf τ) τ (record { fits = r .1 .fits; text = refl }) in
       (τ, i, c ∙ ap length (sym f), omega (arith, c, ap length f), o ∙ ap (λ x. x ++ drop (length x) out) (sym f))
@@ -104,8 +98,8 @@ module _ (b out e : List ℕ) (n : ℕ) (l : textRoom ≤ length out) where
   pub bank-refused : (p : ℕ) → answered (Refused n p) e ≡ bankToText b out → (tagOfBank b ≡ refused n p) × (e ≡ out)
   unfolding bankToText
   bank-refused p h =
-      let (a, o) = was-refused textRoom out (tagOfBank b >>= λ τ. taken (textOf τ)) n e (firm textOf some-text (bankRules b) (Shown b) (tagOfBank b) (bank-reads b)) l p h in
-      (tag-refused textOf some-text (tagOfBank b) n p a, o)
+      let (a, o) = was-refused textRoom out (tagOfBank b >>= λ τ. taken (textOf τ)) n e (firm textOf text-full (bankRules b) (Shown b) (tagOfBank b) (bank-reads b)) l p h in
+      (tag-refused textOf text-full (tagOfBank b) n p a, o)
 
   pub raw-written : answered (Written n) e ≡ rawLine b out
       → (rawOfBank b ≡ taken (rawText b)) × (n ≡ length (rawText b)) × (e ≡ rawText b ++ drop (length (rawText b)) out)

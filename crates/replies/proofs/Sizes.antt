@@ -18,13 +18,13 @@ use Rattle.rules.specs.Grammar.{Tag, TagText, textOf, start, label}
 use Rattle.rules.specs.Coding.{at, bankOf, wordCount, within}
 use Rattle.rules.specs.TextNumbers.{after, tagOfText}
 use Rattle.rules.specs.BankNumbers.{tagOfBank}
-use Rattle.rules.specs.Raw.{afiText, rawText}
+use Rattle.rules.specs.Raw.{rawText}
 use Rattle.rules.specs.Screen.{screen}
 use Rattle.rules.proofs.Answers.{Reads}
 use Rattle.rules.proofs.Banks.{Shown, bank-length}
 use Rattle.rules.proofs.BankReads.{bank-reads, at-lt}
 use Rattle.rules.proofs.TextReads.{tag-reads}
-use Rattle.rules.proofs.Lengths.{measured, text-length, text-of-words, raw-length}
+use Rattle.rules.proofs.Lengths.{measured, text-length, text-of-words, afi-length, raw-length}
 use Rattle.digits.proofs.Texts.{length-hex}
 use Rattle.digits.specs.Starts.{begun}
 use Rattle.replies.specs.Hex.{isBank, bytesIn, bankIn}
@@ -77,10 +77,6 @@ text-short t = go (tagOfText t) (tag-reads t)
     go (refused n i) h = text-refused t n i (h .1) (h .0)
 
 -- To a bank: its line has two digits a byte.
-afi-length : (t : Bool) (a : ℕ) → length (afiText t a) ≤ 4
-afi-length true a = lit≤ tt
-afi-length false a = lit≤ tt
-
 raw-short : (b : List ℕ) → length (rawText b) ≤ 21 + 2 * (length b - 2)
 unfolding rawText
 raw-short b =

@@ -224,7 +224,7 @@ hex-length : (l : List ℕ) → length (hexText l) ≡ 2 * length l
 hex-length [] = refl
 hex-length (x ∷ xs) = omega (arith, hex-length xs)
 
-afi-length : (t : Bool) (a : ℕ) → length (afiText t a) ≤ 4
+pub afi-length : (t : Bool) (a : ℕ) → length (afiText t a) ≤ 4
 afi-length true a = lit≤ tt
 afi-length false a = lit≤ tt
 
