@@ -1,5 +1,5 @@
-// The bank of a tag, written from its record (document 01, "The bank"; document 02, C-13): one stream of bits, in order. Each `put_` function takes the
-// stream, adds its bits, and returns the stream behind them.
+// The bank of a tag, written from its record (document 01, "The bank"; document 02, C-13): one stream of bits, in order. Each `put_`
+// function takes the stream, adds its bits, and returns the stream behind them.
 use super::eights;
 use bits::Stream;
 use fields::control::size;

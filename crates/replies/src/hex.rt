@@ -53,7 +53,8 @@ pub fn is_bank(line: &[u8]) -> bool
     all_hex(line)
 }
 
-// The value of a hex digit. A digit's lower four bits are its value; a letter's are 9 less, and only letters are 64 or more.
+// The value of a hex digit, which all_hex has found to be one. A digit's lower four bits are its value; a letter's are 9 less, and only
+// letters are 64 or more.
 fn value(c: u8) -> u8
     requires { ⌜ T (isHex c) ⌝ }
     ensures { λ r. ⌜ r ≡ hexValue c ⌝ }

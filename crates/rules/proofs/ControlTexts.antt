@@ -1,4 +1,4 @@
--- The control fields of a text: those that stand are found, one after the other, and nothing else is; 20 refuses the rest.
+-- One control field at the start of a text: one that stands is found with its value, and where none stands its value is 0.
 use Prim.Native.Nat.{ℕ, zero, suc, _/_, _%_, _≤_, _<_}
 use mathlib.Core.Path.{_≡_, refl, sym, _∙_, ap}
 use mathlib.Core.Logic.{⊎-elim}

@@ -1,5 +1,5 @@
-// The record of a tag to its text (document 01, "The text of a tag"; document 02, C-13). Each `put_` function writes a piece of it from index `at` on, and
-// returns the index after the piece.
+// The record of a tag to its text (document 01, "The text of a tag"; document 02, C-13). Each `put_` function writes a piece of it from
+// index `at` on, and returns the index after the piece.
 use super::control::put_control;
 use digits::put_bytes;
 use rules::Body;
