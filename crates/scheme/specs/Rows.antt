@@ -1,17 +1,20 @@
 -- The cells of a row as the code holds them.
-use Prim.Native.Nat.{ℕ}
-use mathlib.Core.List.{List}
-use lib.ListN.{getD}
+use Prim.Native.Nat.{ℕ, _+_, _<_}
+use mathlib.Core.Path.{_≡_}
 use Rattle.rules.specs.declared.Table.{Table}
-use Rattle.rules.specs.Schemes.{Row, cell, prefixBits, prefixDigits}
+use Rattle.rules.specs.Schemes.{Row, rowAt, cell, prefixBits, prefixDigits}
 use Rattle.scheme.specs.declared.rows.Cell.{Cell}
-
--- the cell at p in two columns
-abbrev pub cellAt : List ℕ → List ℕ → ℕ → Cell
-cellAt bits digits p = record { bits = getD bits p 0; digits = getD digits p 0 }
+use Rattle.scheme.specs.declared.rows.Sum.{Sum}
 
 abbrev pub prefixOf : Row → Cell
 prefixOf r = record { bits = prefixBits r; digits = prefixDigits r }
 
 abbrev pub referenceOf : Table → Row → Cell
 referenceOf t r = record { bits = cell t r .0; digits = cell t r .1 }
+
+-- prefix and reference together: bits and digits; and that they are so in every row
+abbrev pub sumOf : Table → Row → Sum
+sumOf t r = record { 0 = prefixBits r + cell t r .0; 1 = prefixDigits r + cell t r .1 }
+
+abbrev pub SumIn : Table → Sum → Type 0
+SumIn t s = (P : ℕ) → P < 7 → s ≡ sumOf t (rowAt P)

@@ -1,70 +1,17 @@
 // The rows of the partition tables (document 01, "The thirteen schemes", and document 02, C-11): by partition value, and by the digits of
 // a company prefix.
+// Why 24 and 20: a company prefix has the fewest bits that hold its digits, and prefix and reference have one sum in each table: 7 digits
+// take 24 bits, since 10^7 lies between 2^23 and 2^24, and leave 20 of table A's 44. Proved: `partition-tables` (rules/proofs/Tables).
 use rules::Table;
 ghost use mathlib.Core.Path.{_≡_};
 ghost use Prim.Native.Nat.{_≤_, _<_};
-ghost use lib.ListN.{getD};
 ghost use Rattle.rules.specs.Schemes.{partition, rowAt, exact as isExact, assetBits};
-ghost use Rattle.scheme.specs.Rows.{cellAt, prefixOf, referenceOf};
-
-// The columns of the partition tables, indexed by P, 0 to 6.
-const PREFIX_BITS: [usize; 7] = [40, 37, 34, 30, 27, 24, 20];
-
-const PREFIX_DIGITS: [usize; 7] = [12, 11, 10, 9, 8, 7, 6];
-
-const A_BITS: [usize; 7] = [4, 7, 10, 14, 17, 20, 24];
-
-const A_DIGITS: [usize; 7] = [1, 2, 3, 4, 5, 6, 7];
-
-const B_BITS: [usize; 7] = [18, 21, 24, 28, 31, 34, 38];
-
-const B_DIGITS: [usize; 7] = [5, 6, 7, 8, 9, 10, 11];
-
-const C_BITS: [usize; 7] = [4, 7, 10, 14, 17, 20, 24];
-
-const C_DIGITS: [usize; 7] = [0, 1, 2, 3, 4, 5, 6];
-
-const D_BITS: [usize; 7] = [1, 4, 7, 11, 14, 17, 21];
-
-const D_DIGITS: [usize; 7] = [0, 1, 2, 3, 4, 5, 6];
-
-const E_BITS: [usize; 7] = [42, 45, 48, 52, 55, 58, 62];
-
-const CPI_BITS: [usize; 7] = [11, 14, 17, 21, 24, 27, 31];
-
-const CPI_DIGITS: [usize; 7] = [3, 4, 5, 6, 7, 8, 9];
-
-// The entry of a column at p. The arms are constants of the column, so that no array is built.
-fn entry(column: [usize; 7], p: usize) -> usize
-    requires { ⌜ p < 7 ⌝ }
-    ensures { λ r. ⌜ r ≡ getD column p 0 ⌝ }
-{
-    match p {
-        0 => column[0],
-        1 => column[1],
-        2 => column[2],
-        3 => column[3],
-        4 => column[4],
-        5 => column[5],
-        _ => column[6],
-    }
-}
+ghost use Rattle.scheme.specs.Rows.{prefixOf, referenceOf, SumIn};
 
 // A cell of a row: bits and digits.
 pub struct Cell {
     pub bits: usize,
     pub digits: usize,
-}
-
-// The cell at p, in a column of bits and one of digits.
-fn cell_at(bits: [usize; 7], digits: [usize; 7], p: usize) -> Cell
-    requires { ⌜ p < 7 ⌝ }
-    ensures { λ r. ⌜ r ≡ cellAt bits digits p ⌝ }
-{
-    Cell {
-        bits: entry(bits, p),
-        digits: entry(digits, p),
-    }
 }
 
 // The partition value of a company prefix.
@@ -75,12 +22,32 @@ pub fn by_digits(digits: usize) -> usize
     12 - digits
 }
 
-// The company prefix of a row.
+// The company prefix of a row. A digit is worth log2 10 = 3.32 bits; 53 / 16 = 3.31 a digit, rounded up, gives the fewest for 6 to 12 digits.
 pub fn prefix(p: usize) -> Cell
     requires { ⌜ p < 7 ⌝ }
     ensures { λ r. ⌜ r ≡ prefixOf (rowAt p) ⌝ }
 {
-    cell_at(PREFIX_BITS, PREFIX_DIGITS, p)
+    let digits = 12 - p;
+    Cell {
+        bits: (53 * digits + 15) / 16,
+        digits,
+    }
+}
+
+// The bits and the digits that prefix and reference have together.
+struct Sum(usize, usize);
+
+// The sum of a table: it is the same in every row.
+fn sum_of(t: Table) -> Sum
+    ensures { λ r. ⌜ SumIn t r ⌝ }
+{
+    match t {
+        Table::A => Sum(44, 13),
+        Table::B => Sum(58, 17),
+        Table::C => Sum(44, 12),
+        Table::D => Sum(41, 12),
+        Table::Cpi => Sum(51, 15),
+    }
 }
 
 // The reference of a row in one of the tables A to D, or in cpi-96's own.
@@ -88,12 +55,11 @@ pub fn reference(t: Table, p: usize) -> Cell
     requires { ⌜ p < 7 ⌝ }
     ensures { λ r. ⌜ r ≡ referenceOf t (rowAt p) ⌝ }
 {
-    match t {
-        Table::A => cell_at(A_BITS, A_DIGITS, p),
-        Table::B => cell_at(B_BITS, B_DIGITS, p),
-        Table::C => cell_at(C_BITS, C_DIGITS, p),
-        Table::D => cell_at(D_BITS, D_DIGITS, p),
-        Table::Cpi => cell_at(CPI_BITS, CPI_DIGITS, p),
+    let whole = sum_of(t);
+    let company = prefix(p);
+    Cell {
+        bits: whole.0 - company.bits,
+        digits: whole.1 - company.digits,
     }
 }
 
@@ -115,5 +81,5 @@ pub fn asset(p: usize) -> usize
     requires { ⌜ p < 7 ⌝ }
     ensures { λ r. ⌜ r ≡ assetBits (rowAt p) ⌝ }
 {
-    entry(E_BITS, p)
+    82 - prefix(p).bits
 }

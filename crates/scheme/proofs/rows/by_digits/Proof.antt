@@ -1,6 +1,6 @@
 -- `by_digits` meets its contract: the row of n digits is the one of partition value 12 - n.
 use borrow.Author.Needs.{needs}
-use Rattle.scheme.proofs.Columns.{digits-pick}
+use Rattle.scheme.proofs.Sums.{digits-pick}
 use Rattle.scheme.proofs.rows.by_digits.Statement.{statement}
 use Rattle.scheme.proofs.rows.by_digits.Tie as tie
 
