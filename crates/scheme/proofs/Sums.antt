@@ -17,7 +17,7 @@ same-cell a b c d e f = λ i. record { bits = e i; digits = f i }
 inner : (P : ℕ) → P < 7 → InnerRules P (rowAt P)
 inner = by-row InnerRules partition-tables
 
--- partition value and prefix digits are twelve, so the digits pick the row
+-- partition value and digits of a prefix make twelve, so the digits pick the row
 twelve-in : (P : ℕ) (r : Row) → InnerRules P r → P + prefixDigits r ≡ 12
 twelve-in P (row p a b c d e k) h = h .digits
 
@@ -30,7 +30,7 @@ digits-pick n l u =
     let e : partition n + prefixDigits (rowOf n) ≡ 12 = twelve (partition n) small in
     omega arith
 
--- a digit takes 53 / 16 bits, rounded up for all of a prefix
+-- a prefix takes 53 / 16 bits a digit, rounded up
 abbrev pub Rounded : ℕ → Row → Type 0
 Rounded P r = (53 * prefixDigits r ≤ 16 * prefixBits r) × (16 * prefixBits r < 53 * prefixDigits r + 16)
 
