@@ -1,5 +1,5 @@
-// The rows of the partition tables (document 01, "The thirteen schemes", and document 02, C-11): by partition value, and by the digits of
-// a company prefix.
+// The rows of the partition tables (document 01, "The thirteen schemes", and document 02, C-11 and C-14): by partition value, and by the
+// digits of a company prefix.
 // Why 24 and 20: a company prefix has the fewest bits that hold its digits, and prefix and reference have one sum in each table: 7 digits
 // take 24 bits, since 10^7 lies between 2^23 and 2^24, and leave 20 of table A's 44. Proved: `partition-tables` (rules/proofs/Tables).
 use rules::Table;
