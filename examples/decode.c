@@ -1,7 +1,10 @@
-/* A bank, given in hexadecimal, or the text of a tag: `decode 30003074257BF7194E4000001A85`, `decode urn:epc:tag:gid-96:1.2.3`.
- * Prints the number of the first broken rule, 0 for none. With 0: the tag's text, or its bank. With another: the place, and for a bank the
- * line on the screen, if there is one to show; for a text the text, and a mark under the character at the place. */
+/* A bank, given in hexadecimal, or the text of a tag and how many words its bank is to have, if not the fewest:
+ * `decode 30003074257BF7194E4000001A85`, `decode urn:epc:tag:gid-96:1.2.3`, `decode urn:epc:tag:gid-96:1.2.3 8`.
+ * Prints the number of the first broken rule, 0 for none. With 0: the tag's text and how many words its bank has, or the bank. With
+ * another: the place, and for a bank the line on the screen, if there is one to show; for a text the text, and a mark under the
+ * character at the place. 21 and 22 refuse the number of words, not the text: that number stands for the place, without a mark. */
 #include <stdio.h>
+#include <stdlib.h>
 #include <string.h>
 
 #include "tagcodec.h"
@@ -24,6 +27,14 @@ static int from_hex(const char *text, uint8_t *bytes, size_t most) {
     return (int)(n / 2);
 }
 
+/* Whether a text is decimal digits whose value 32 bits hold; `value` is then that. */
+static int from_decimal(const char *text, uint32_t *value) {
+    size_t digits = strspn(text, "0123456789");
+    unsigned long long read = strtoull(text, NULL, 10);
+    *value = (uint32_t)read;
+    return digits > 0 && text[digits] == '\0' && read <= UINT32_MAX;
+}
+
 static void show_bank(const uint8_t *bank, size_t size) {
     uint8_t tag[TAGCODEC_TEXT_ROOM], raw[TAGCODEC_TEXT_ROOM];
     tagcodec_reply shown = tagcodec_bank_to_text(bank, size, tag, sizeof tag);
@@ -34,12 +45,13 @@ static void show_bank(const uint8_t *bank, size_t size) {
     if (shown.number == TAGCODEC_BANK_TOO_SHORT) printf(" at %u bytes", (unsigned)shown.place);
     else if (shown.number != TAGCODEC_ACCEPTED) printf(" at %Xh", (unsigned)shown.place);
     if (screen.length > 0) printf(" %.*s", (int)screen.length, (const char *)(screen.text == TAGCODEC_TAG_TEXT ? tag : raw));
+    if (shown.number == TAGCODEC_ACCEPTED) printf(" in %u words", (unsigned)shown.words);
     printf("\n");
 }
 
-static void show_text(const char *text) {
+static void show_text(const char *text, uint32_t words) {
     uint8_t bank[TAGCODEC_BANK_ROOM];
-    tagcodec_reply reply = tagcodec_text_to_bank((const uint8_t *)text, strlen(text), bank, sizeof bank);
+    tagcodec_reply reply = tagcodec_text_to_bank((const uint8_t *)text, strlen(text), words, bank, sizeof bank);
 
     printf("%u ", (unsigned)reply.number);
     if (reply.number == TAGCODEC_ACCEPTED) {
@@ -47,22 +59,34 @@ static void show_text(const char *text) {
         printf("\n");
         return;
     }
+    if (reply.number == TAGCODEC_TOO_MANY_WORDS || reply.number == TAGCODEC_TOO_FEW_WORDS) {
+        printf("at %u words\n", (unsigned)words);
+        return;
+    }
     printf("at %u\n", (unsigned)reply.place);
     for (; *text; text++) putchar(' ' <= *text && *text <= '~' ? *text : '?');
     printf("\n%*s^\n", (int)reply.place, "");
 }
 
+static int bad_input(int argc, char **argv) {
+    fprintf(stderr, "decode: a text that begins with urn:, alone or with a word count below 2^32, or an even number of upper-case hex "
+                    "digits, at most 128:");
+    for (int i = 1; i < argc; i++) fprintf(stderr, " %s", argv[i]);
+    fprintf(stderr, "\n");
+    return 2;
+}
+
 int main(int argc, char **argv) {
     const char *given = argc > 1 ? argv[1] : "30003074257BF7194E4000001A85";
     uint8_t bank[64];
-    int size = from_hex(given, bank, sizeof bank);
-    if (strncmp(given, "urn:", 4) == 0) {
-        show_text(given);
-    } else if (size >= 0) {
+    uint32_t words = 0;
+    int size = from_hex(given, bank, sizeof bank), asked = argc == 3 && from_decimal(argv[2], &words);
+    if (strncmp(given, "urn:", 4) == 0 && (argc <= 2 || asked)) {
+        show_text(given, words);
+    } else if (size >= 0 && argc <= 2) {
         show_bank(bank, (size_t)size);
     } else {
-        fprintf(stderr, "decode: a text that begins with urn:, or an even number of upper-case hex digits, at most 128: %s\n", given);
-        return 2;
+        return bad_input(argc, argv);
     }
     return 0;
 }

@@ -1,16 +1,27 @@
-//! A bank, given in hexadecimal, or the text of a tag: `decode 30003074257BF7194E4000001A85`, `decode urn:epc:tag:gid-96:1.2.3`.
-//! Prints the number of the first broken rule, 0 for none. With 0: the tag's text, or its bank. With another: the place, and for a bank
-//! the line on the screen, if there is one to show; for a text the text, and a mark under the character at the place.
+//! A bank, given in hexadecimal, or the text of a tag and how many words its bank is to have, if not the fewest:
+//! `decode 30003074257BF7194E4000001A85`, `decode urn:epc:tag:gid-96:1.2.3`, `decode urn:epc:tag:gid-96:1.2.3 8`.
+//! Prints the number of the first broken rule, 0 for none. With 0: the tag's text and how many words its bank has, or the bank. With
+//! another: the place, and for a bank the line on the screen, if there is one to show; for a text the text, and a mark under the
+//! character at the place. 21 and 22 refuse the number of words, not the text: that number stands for the place, without a mark.
 mod tagcodec;
 
 use std::os::unix::ffi::OsStringExt;
-use tagcodec::Refusal;
+use tagcodec::{Answer, Refusal, Written};
 
 fn from_hex(text: &[u8]) -> Option<Vec<u8>> {
     let digit = |c: &u8| b"0123456789ABCDEF".iter().position(|d| d == c);
     let digits: Vec<usize> = text.iter().map(digit).collect::<Option<_>>()?;
     let byte = |pair: &[usize]| (pair.len() == 2).then(|| (16 * pair[0] + pair[1]) as u8);
     digits.chunks(2).map(byte).collect()
+}
+
+/// The value of decimal digits, if 32 bits hold it; a plus sign, which `parse` would take, is no digit.
+fn from_decimal(text: &[u8]) -> Option<u32> {
+    std::str::from_utf8(text).ok().filter(|text| !text.starts_with('+'))?.parse().ok()
+}
+
+fn hex(bytes: &[u8]) -> String {
+    bytes.iter().map(|byte| format!("{byte:02X}")).collect()
 }
 
 /// The bytes as characters; one that can't be shown is a question mark.
@@ -20,34 +31,49 @@ fn printable(bytes: &[u8]) -> String {
 
 fn show_bank(bank: &[u8]) {
     let (mut tag, mut raw) = ([0; tagcodec::TEXT_ROOM], [0; tagcodec::TEXT_ROOM]);
-    let shown = tagcodec::bank_to_text(bank, &mut tag);
-    let raw_length = tagcodec::raw_line(bank, &mut raw).unwrap_or(0);
+    let (shown, line) = (tagcodec::bank_to_text(bank, &mut tag), tagcodec::raw_line(bank, &mut raw));
     let number = shown.map_or_else(|refusal| refusal.number, |_| 0);
-    let line = tagcodec::screen(&tag[..shown.unwrap_or(0)], &raw[..raw_length], number);
+    let length = |answer: Answer| answer.map_or(0, |written| written.length);
+    let screen = printable(tagcodec::screen(&tag[..length(shown)], &raw[..length(line)], number));
     let said = match shown {
-        Ok(_) => "0".to_string(),
+        Ok(Written { words, .. }) => format!("0 {screen} in {words} words"),
         Err(Refusal { number: 9, place }) => format!("9 at {place} bytes"),
-        Err(Refusal { number, place }) => format!("{number} at {place:X}h"),
+        Err(Refusal { number, place }) => format!("{number} at {place:X}h {screen}"),
     };
-    println!("{}", [said, printable(line)].join(" ").trim_end());
+    println!("{}", said.trim_end());
 }
 
-fn show_text(text: &[u8]) {
+fn show_text(text: &[u8], words: u32) {
     let mut bank = [0; tagcodec::BANK_ROOM];
-    match tagcodec::text_to_bank(text, &mut bank) {
-        Ok(length) => println!("0 {}", bank[..length].iter().map(|byte| format!("{byte:02X}")).collect::<String>()),
+    match tagcodec::text_to_bank(text, words, &mut bank) {
+        Ok(Written { length, .. }) => println!("0 {}", hex(&bank[..length])),
+        Err(Refusal { number: number @ (21 | 22), .. }) => println!("{number} at {words} words"),
         Err(Refusal { number, place }) => println!("{number} at {place}\n{}\n{:2$}^", printable(text), "", place as usize),
     }
 }
 
+/// Shows what the arguments ask for; None if they are neither a bank nor a text, alone or with its words.
+fn show(given: &[Vec<u8>]) -> Option<()> {
+    match given {
+        [text] if text.starts_with(b"urn:") => show_text(text, 0),
+        [text, words] if text.starts_with(b"urn:") => show_text(text, from_decimal(words)?),
+        [bank] => show_bank(&from_hex(bank)?),
+        _ => return None,
+    }
+    Some(())
+}
+
 fn main() {
-    let given = std::env::args_os().nth(1).unwrap_or("30003074257BF7194E4000001A85".into()).into_vec();
-    if given.starts_with(b"urn:") {
-        show_text(&given);
-    } else if let Some(bank) = from_hex(&given) {
-        show_bank(&bank);
-    } else {
-        eprintln!("decode: a text that begins with urn:, or an even number of upper-case hex digits: {}", printable(&given));
+    let mut given: Vec<Vec<u8>> = std::env::args_os().skip(1).map(OsStringExt::into_vec).collect();
+    if given.is_empty() {
+        given.push("30003074257BF7194E4000001A85".into());
+    }
+    if show(&given).is_none() {
+        let given = printable(&given.join(&b' '));
+        eprintln!(
+            "decode: a text that begins with urn:, alone or with a word count below 2^32, or an even number of upper-case hex \
+             digits: {given}"
+        );
         std::process::exit(2);
     }
 }

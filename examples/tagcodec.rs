@@ -4,7 +4,8 @@
 #[repr(C)]
 struct Reply {
     number: u32,
-    place: u32,
+    place: u16,
+    words: u16,
     length: usize,
 }
 
@@ -15,7 +16,7 @@ struct Shown {
 }
 
 extern "C" {
-    fn tagcodec_text_to_bank(text: *const u8, text_length: usize, out: *mut u8, out_length: usize) -> Reply;
+    fn tagcodec_text_to_bank(text: *const u8, text_length: usize, words: u32, out: *mut u8, out_length: usize) -> Reply;
     fn tagcodec_bank_to_text(bank: *const u8, bank_length: usize, out: *mut u8, out_length: usize) -> Reply;
     fn tagcodec_raw_line(bank: *const u8, bank_length: usize, out: *mut u8, out_length: usize) -> Reply;
     fn tagcodec_screen(tag: *const u8, tag_length: usize, raw: *const u8, raw_length: usize, number: u32) -> Shown;
@@ -25,6 +26,13 @@ extern "C" {
 pub const BANK_ROOM: usize = 64;
 pub const TEXT_ROOM: usize = 160;
 
+/// What was written: its length, and the word count W of the bank that was written or read.
+#[derive(Clone, Copy, Debug, PartialEq)]
+pub struct Written {
+    pub length: usize,
+    pub words: u32,
+}
+
 /// The number of the first broken rule, and where: an offset in a text, an address in a bank; include/tagcodec.h has them all.
 #[derive(Clone, Copy, Debug, PartialEq)]
 pub struct Refusal {
@@ -32,18 +40,18 @@ pub struct Refusal {
     pub place: u32,
 }
 
-/// The length written, or the refusal.
-pub type Answer = Result<usize, Refusal>;
+pub type Answer = Result<Written, Refusal>;
 
-fn answer(Reply { number, place, length }: Reply) -> Answer {
+fn answer(Reply { number, place, words, length }: Reply) -> Answer {
     match number {
-        0 => Ok(length),
-        _ => Err(Refusal { number, place }),
+        0 => Ok(Written { length, words: words.into() }),
+        _ => Err(Refusal { number, place: place.into() }),
     }
 }
 
-pub fn text_to_bank(text: &[u8], out: &mut [u8]) -> Answer {
-    answer(unsafe { tagcodec_text_to_bank(text.as_ptr(), text.len(), out.as_mut_ptr(), out.len()) })
+/// `words` is the W to write, 0 for the smallest.
+pub fn text_to_bank(text: &[u8], words: u32, out: &mut [u8]) -> Answer {
+    answer(unsafe { tagcodec_text_to_bank(text.as_ptr(), text.len(), words, out.as_mut_ptr(), out.len()) })
 }
 
 pub fn bank_to_text(bank: &[u8], out: &mut [u8]) -> Answer {

@@ -1,12 +1,14 @@
 """The blocks of lines that the program is run on.
 
-A block gives pairs: a line, and the answer that document 01, request C-11 or C-13 of document 02, docs/vectors.tsv
-or the making of the line states; None where nothing states one. Characters stand for bytes (latin-1).
+A block gives pairs: a line, and the answer that document 01, request C-11, C-13 or C-15 of document 02,
+docs/vectors.tsv or the making of the line states; None where nothing states one. Characters stand for bytes
+(latin-1).
 """
 
 import faults
 from controls import controls
 from documents import ROW_1, ROW_1_CODE, ROW_6, annex, example, known
+from long_banks import long_banks
 from places import refused_banks, refused_texts
 from seeded import Random, mutated
 from tags import CHARACTERS, ESCAPED, SCHEMES, TAG_START, Tag
@@ -243,6 +245,7 @@ BLOCKS = (
     headers,
     first_rule,
     controls,
+    long_banks,
     places,
     groups,
     numerics,

@@ -1,17 +1,18 @@
-/* Every exported call from C: document 01's known tags, tags with control fields, the place of every number, each output byte, and the
- * lengths and pointers at the edge. */
+/* Every exported call from C: document 01's known tags, tags with control fields, banks with further words, the place of every number,
+ * each output byte, and the lengths and pointers at the edge. */
 #include <stdio.h>
 #include <string.h>
 
 #include "tagcodec.h"
 
+enum { TOLD = 40 };
 static int compared, wrong;
 
+/* Tells the first that are wrong; the last line says how many are. */
 static void expect(int right, const char *what, const char *of) {
     compared++;
     if (right) return;
-    wrong++;
-    printf("wrong: %s: %s\n", what, of);
+    if (wrong++ < TOLD) printf("wrong: %s: %s\n", what, of);
 }
 
 static size_t from_hex(const char *hex, uint8_t *bytes) {
@@ -24,55 +25,92 @@ static size_t from_hex(const char *hex, uint8_t *bytes) {
     return n;
 }
 
-typedef tagcodec_reply call(const uint8_t *, size_t, uint8_t *, size_t);
-
-/* The call gives the number and the place, and exactly these bytes before others that are unchanged. */
-static void gives(call *made, const void *in, size_t in_length, uint32_t number, uint32_t place, const void *bytes, size_t length,
-                  const char *of) {
-    uint8_t out[TAGCODEC_TEXT_ROOM], untouched[TAGCODEC_TEXT_ROOM];
-    memset(out, 0xA5, sizeof out);
-    memset(untouched, 0xA5, sizeof untouched);
-    tagcodec_reply r = made(in, in_length, out, sizeof out);
-    expect(r.number == number, "number", of);
-    expect(r.place == place, "place", of);
-    expect(r.length == length, "length", of);
-    expect(length == 0 || memcmp(out, bytes, length) == 0, "bytes", of);
-    expect(memcmp(out + length, untouched, sizeof out - length) == 0, "bytes past the length", of);
+/* W, the five bits that a bank begins with. */
+static uint32_t words_of(const uint8_t *bank) {
+    return bank[0] >> 3;
 }
 
-static void text(const char *t, const char *bank) {
+enum { UNTOUCHED = 0xA5 };
+static uint8_t out[2 * TAGCODEC_TEXT_ROOM];
+
+/* The output before a call; it goes on behind what is lent of it. */
+static uint8_t *fresh(void) {
+    return memset(out, UNTOUCHED, sizeof out);
+}
+
+static tagcodec_reply accepted(uint32_t words, size_t length) {
+    return (tagcodec_reply){.words = (uint16_t)words, .length = length};
+}
+
+static tagcodec_reply refused(uint32_t number, uint32_t place) {
+    return (tagcodec_reply){.number = number, .place = (uint16_t)place};
+}
+
+/* The call gave this reply, and exactly these bytes before others that are unchanged. */
+static void gives(tagcodec_reply given, tagcodec_reply expected, const void *bytes, const char *of) {
+    uint8_t untouched[sizeof out];
+    memset(untouched, UNTOUCHED, sizeof untouched);
+    expect(given.number == expected.number, "number", of);
+    expect(given.place == expected.place, "place", of);
+    expect(given.words == expected.words, "words", of);
+    expect(given.length == expected.length, "length", of);
+    expect(memcmp(out, bytes, expected.length) == 0, "bytes", of);
+    expect(memcmp(out + expected.length, untouched, sizeof out - expected.length) == 0, "bytes past the length", of);
+}
+
+static tagcodec_reply to_bank(const char *t, uint32_t words) {
+    return tagcodec_text_to_bank((const uint8_t *)t, strlen(t), words, fresh(), TAGCODEC_BANK_ROOM);
+}
+
+static tagcodec_reply to_text(const uint8_t *bytes, size_t n) {
+    return tagcodec_bank_to_text(bytes, n, fresh(), TAGCODEC_TEXT_ROOM);
+}
+
+static tagcodec_reply to_raw(const uint8_t *bytes, size_t n) {
+    return tagcodec_raw_line(bytes, n, fresh(), TAGCODEC_TEXT_ROOM);
+}
+
+static void text(const char *t, uint32_t words, const char *hex) {
     uint8_t bytes[64];
-    size_t n = from_hex(bank, bytes);
-    gives(tagcodec_text_to_bank, t, strlen(t), 0, 0, bytes, n, t);
+    size_t n = from_hex(hex, bytes);
+    gives(to_bank(t, words), accepted(words_of(bytes), n), bytes, t);
 }
 
 static void bank(const char *hex, const char *t) {
     uint8_t bytes[64];
     size_t n = from_hex(hex, bytes);
-    gives(tagcodec_bank_to_text, bytes, n, 0, 0, t, strlen(t), hex);
+    gives(to_text(bytes, n), accepted(words_of(bytes), strlen(t)), t, hex);
 }
 
 static void raw(const char *hex, const char *line) {
     uint8_t bytes[64];
     size_t n = from_hex(hex, bytes);
-    gives(tagcodec_raw_line, bytes, n, 0, 0, line, strlen(line), hex);
+    gives(to_raw(bytes, n), accepted(words_of(bytes), strlen(line)), line, hex);
 }
 
+/* A text in the smallest bank, which 0 asks for too, each from the other. */
 static void both(const char *hex, const char *t) {
-    text(t, hex);
+    uint8_t bytes[64];
+    from_hex(hex, bytes);
+    text(t, 0, hex);
+    text(t, words_of(bytes), hex);
     bank(hex, t);
 }
 
+/* What is wrong with a text is told before 22, and after 21. */
 static void text_refused(const char *t, uint32_t number, uint32_t offset) {
-    gives(tagcodec_text_to_bank, t, strlen(t), number, offset, "", 0, t);
+    gives(to_bank(t, 0), refused(number, offset), "", t);
+    gives(to_bank(t, 1), refused(number, offset), "", t);
+    gives(to_bank(t, TAGCODEC_MOST_WORDS), refused(number, offset), "", t);
+    gives(to_bank(t, TAGCODEC_MOST_WORDS + 1), refused(21, 0), "", t);
 }
 
 /* The raw line is refused only with 9 and 10, and then like the bank. */
 static void bank_refused(const char *hex, uint32_t number, uint32_t address) {
     uint8_t bytes[64];
     size_t n = from_hex(hex, bytes);
-    gives(tagcodec_bank_to_text, bytes, n, number, address, "", 0, hex);
-    if (number <= TAGCODEC_NO_WORDS) gives(tagcodec_raw_line, bytes, n, number, address, "", 0, hex);
+    gives(to_text(bytes, n), refused(number, address), "", hex);
+    if (number <= TAGCODEC_NO_WORDS) gives(to_raw(bytes, n), refused(number, address), "", hex);
 }
 
 static void known_tags(void) {
@@ -84,7 +122,7 @@ static void known_tags(void) {
     both("30003174257BF4499602D2000000", "urn:epc:tag:sscc-96:3.0614141.1234567890");
     bank_refused("30003174257BF4499602D2000001", 15, 0x7F);
     both("68003614257BF7194E70AEC400000000000000000000000000000000", "urn:epc:tag:sgtin-198:0.0614141.812345.a.b");
-    text("urn:epc:tag:sgtin-96:3.0614141.812345.274877906943", "30003074257BF7194E7FFFFFFFFF");
+    text("urn:epc:tag:sgtin-96:3.0614141.812345.274877906943", 0, "30003074257BF7194E7FFFFFFFFF");
     text_refused("urn:epc:tag:sgtin-96:3.0614141.812345.274877906944", 8, 38);
     text_refused("urn:epc:tag:sgtin-96:3.0614141.812345.007", 7, 38);
     text_refused("urn:epc:tag:sgtin-198:0.0614141.812345.a%2fb", 7, 39);
@@ -151,29 +189,121 @@ static void places(void) {
     bank_refused("68003614257BF7194E40000000000000000000000000000000000000", 19, 0x5A);
 }
 
-/* A reply goes in two registers: number and place in the first, the length in the second. */
+/* The bank with its code in this many words, and its length: zeros in the further words, or words missing. */
+static size_t in_words(const char *hex, uint32_t words, uint8_t *bytes) {
+    memset(bytes, 0, TAGCODEC_BANK_ROOM);
+    from_hex(hex, bytes);
+    bytes[0] = (uint8_t)(words << 3 | (bytes[0] & 7));
+    return 2 + 2 * words;
+}
+
+/* The bit is 1, alone and with the bank's last: code bit c is at 20h + c. */
+static void nonzero(const char *hex, uint32_t words, uint32_t bit) {
+    uint8_t bytes[TAGCODEC_BANK_ROOM];
+    size_t n = in_words(hex, words, bytes);
+    char of[100];
+    snprintf(of, sizeof of, "code bit %u in %u words: %s", (unsigned)bit, (unsigned)words, hex);
+    bytes[2 + bit / 8] |= (uint8_t)(0x80 >> bit % 8);
+    gives(to_text(bytes, n), refused(15, 0x20 + bit), "", of);
+    bytes[n - 1] |= 1;
+    gives(to_text(bytes, n), refused(15, 0x20 + bit), "", of);
+}
+
+/* A text, and its bank cut to fewer words than the scheme needs. */
+static void too_few_words(const char *hex, const char *t, uint32_t words) {
+    uint8_t bytes[TAGCODEC_BANK_ROOM];
+    size_t n = in_words(hex, words, bytes);
+    gives(to_bank(t, words), refused(22, 0), "", t);
+    gives(to_text(bytes, n), refused(14, 0x10), "", hex);
+}
+
+/* A text and its bank of this many words, whose code bits must be 0 from `zeros` on. */
+static void enough_words(const char *hex, const char *t, uint32_t words, uint32_t zeros) {
+    uint8_t bytes[TAGCODEC_BANK_ROOM];
+    size_t n = in_words(hex, words, bytes);
+    gives(to_bank(t, words), accepted(words, n), bytes, t);
+    gives(to_text(bytes, n), accepted(words, strlen(t)), t, hex);
+    for (uint32_t bit = zeros; bit < 16 * words; bit++) nonzero(hex, words, bit);
+}
+
+/* A text and its smallest bank, in every number of words. */
+static void every_count(const char *hex, const char *t, uint32_t zeros) {
+    uint8_t smallest[TAGCODEC_BANK_ROOM];
+    from_hex(hex, smallest);
+    both(hex, t);
+    for (uint32_t words = 1; words < words_of(smallest); words++) too_few_words(hex, t, words);
+    for (uint32_t words = words_of(smallest); words <= TAGCODEC_MOST_WORDS; words++) enough_words(hex, t, words, zeros);
+}
+
+/* 21 whatever the text, and whatever the W would be in fewer bits. */
+static void too_many_words(const char *t) {
+    const uint32_t asked[] = {32, 33, 64, 255, 256, 256 + 6, 65536, 65536 + 6, UINT32_MAX - 31, UINT32_MAX};
+    for (size_t i = 0; i < sizeof asked / sizeof asked[0]; i++) gives(to_bank(t, asked[i]), refused(21, 0), "", t);
+}
+
+/* C-15: row 1 in 8 words, row 6 in 31, which are all of the room; rows 1, 5 and 6 and the other word counts of schemes in every number of
+ * words; what comes before 15 and after it; bytes behind word W. */
+static void long_banks(void) {
+    const char *row_1 = "urn:epc:tag:sgtin-96:3.0614141.812345.6789", *row_1_in_8 = "40003074257BF7194E4000001A8500000000",
+               *row_6 = "urn:epc:tag:sgtin-198:0.0614141.812345.a.b",
+               *row_6_in_31 = "F8003614257BF7194E70AEC4" "0000000000000000000000000000000000000000000000000000"
+                              "0000000000000000000000000000000000000000000000000000";
+    text(row_1, 8, row_1_in_8);
+    bank(row_1_in_8, row_1);
+    raw(row_1_in_8, "urn:epc:raw:128.x3074257BF7194E4000001A8500000000");
+    text(row_6, 31, row_6_in_31);
+    bank(row_6_in_31, row_6);
+    text("urn:epc:tag:[umi=1][att=xFF]:sgtin-96:3.0614141.812345.6789", 8, "44FF3074257BF7194E4000001A8500000000");
+    bank("44FF3074257BF7194E4000001A8500000000", "urn:epc:tag:[umi=1][att=xFF]:sgtin-96:3.0614141.812345.6789");
+
+    every_count("30003074257BF7194E4000001A85", row_1, 96);
+    every_count("30003174257BF4499602D2000000", "urn:epc:tag:sscc-96:3.0614141.1234567890", 72);
+    every_count("40003A76451FD7039A000000000001F78000", "urn:epc:tag:gdti-113:3.9521141.98765.007", 113);
+    every_count("58003776451FD40C0E59B2C2BF1000000000000000000000", "urn:epc:tag:grai-170:3.9521141.12345.32a%2Fb", 170);
+    every_count("68003614257BF7194E70AEC400000000000000000000000000000000", row_6, 198);
+
+    too_many_words(row_1);
+    too_many_words("");
+    too_many_words("urn:epc:tag:gid-95:1.2.3");
+
+    bank_refused("40003074257BF7194E4000001A850000", 9, 16);
+    bank_refused("42003074257BF7194E4000001A8500000001", 12, 0x16);
+    bank_refused("4000FF74257BF7194E4000001A8500000001", 13, 0x20);
+    bank_refused("4000307C257BF7194E4000001A8500000001", 15, 0x9F);
+    bank_refused("4000307C257BF7194E4000001A8500000000", 16, 0x2B);
+    bank("30003074257BF7194E4000001A85" "FFFF", row_1);
+    bank("40003074257BF7194E4000001A8500000000" "FFFF", row_1);
+}
+
+/* A reply goes in two registers: number, place and words in the first, the length in the second. */
 static void reply(void) {
     expect(sizeof(tagcodec_reply) == 16, "size", "reply");
     expect(offsetof(tagcodec_reply, number) == 0, "number's offset", "reply");
     expect(offsetof(tagcodec_reply, place) == 4, "place's offset", "reply");
+    expect(offsetof(tagcodec_reply, words) == 6, "words' offset", "reply");
     expect(offsetof(tagcodec_reply, length) == 8, "length's offset", "reply");
 }
 
-static void edge(tagcodec_reply r, uint32_t number, const char *of) {
-    expect(r.number == number, "number", of);
-    expect(r.place == 0, "place", of);
-    expect(r.length == 0, "length", of);
+static void edges(void) {
+    uint8_t *nowhere = NULL;
+    gives(tagcodec_text_to_bank(nowhere, 0, 0, fresh(), 64), refused(2, 0), "", "no text");
+    gives(tagcodec_bank_to_text(nowhere, 0, fresh(), 160), refused(9, 0), "", "no bank");
+    gives(tagcodec_raw_line(nowhere, 0, fresh(), 160), refused(9, 0), "", "no bank, raw");
+    gives(tagcodec_text_to_bank(nowhere, 0, 0, nowhere, 0), refused(1, 0), "", "no text and no output");
+    gives(tagcodec_text_to_bank(nowhere, 0, 0, fresh(), 63), refused(1, 0), "", "63 bytes for a bank");
+    gives(tagcodec_text_to_bank(nowhere, 0, 32, fresh(), 63), refused(1, 0), "", "63 bytes for a bank of 32 words");
+    gives(tagcodec_bank_to_text(nowhere, 0, fresh(), 159), refused(1, 0), "", "159 bytes for a text");
+    gives(tagcodec_raw_line(nowhere, 0, fresh(), 159), refused(1, 0), "", "159 bytes for a raw line");
 }
 
-static void edges(void) {
-    uint8_t out[TAGCODEC_TEXT_ROOM], *nowhere = NULL;
-    edge(tagcodec_text_to_bank(nowhere, 0, out, 64), 2, "no text");
-    edge(tagcodec_bank_to_text(nowhere, 0, out, 160), 9, "no bank");
-    edge(tagcodec_raw_line(nowhere, 0, out, 160), 9, "no bank, raw");
-    edge(tagcodec_text_to_bank(nowhere, 0, nowhere, 0), 1, "no text and no output");
-    edge(tagcodec_text_to_bank(nowhere, 0, out, 63), 1, "63 bytes for a bank");
-    edge(tagcodec_bank_to_text(nowhere, 0, out, 159), 1, "159 bytes for a text");
-    edge(tagcodec_raw_line(nowhere, 0, out, 159), 1, "159 bytes for a raw line");
+/* More output than must be: no more of it is written. */
+static void longer_outputs(void) {
+    const char *t = "urn:epc:tag:gid-96:0.0.0", *line = "urn:epc:raw:96.x350000000000000000000000";
+    const uint8_t bytes[TAGCODEC_BANK_ROOM] = {0x30, 0, 0x35}, in_31[TAGCODEC_BANK_ROOM] = {0xF8, 0, 0x35};
+    gives(tagcodec_text_to_bank((const uint8_t *)t, strlen(t), 0, fresh(), sizeof out), accepted(6, 14), bytes, t);
+    gives(tagcodec_text_to_bank((const uint8_t *)t, strlen(t), 31, fresh(), sizeof out), accepted(31, 64), in_31, t);
+    gives(tagcodec_bank_to_text(bytes, 14, fresh(), sizeof out), accepted(6, strlen(t)), t, t);
+    gives(tagcodec_raw_line(bytes, 14, fresh(), sizeof out), accepted(6, strlen(line)), line, line);
 }
 
 static void screen(void) {
@@ -193,8 +323,10 @@ int main(void) {
     control_fields();
     control_places();
     places();
+    long_banks();
     reply();
     edges();
+    longer_outputs();
     screen();
     printf("%d compared, %d wrong\n", compared, wrong);
     return wrong != 0;

@@ -1,6 +1,6 @@
-"""Texts and banks with a fault, and the number that document 01, or request C-11 or C-13 of document 02, gives for it.
+"""Texts and banks with a fault, and the number that document 01, or request C-11, C-13 or C-15 of document 02, gives for it.
 
-The faults of control fields are in tests/controls.py.
+The faults of control fields are in tests/controls.py, those of further words in tests/long_banks.py.
 """
 
 from itertools import combinations
@@ -117,7 +117,7 @@ def banks(tag):
     yield 10, [control + rest for control in ("0000", "07FF", "0100") for rest in ("", bank[4:])]
     yield 11, [tag.bank(words << 11 | low) for low in (0x100, 0x101, 0x1FF, 0x1C1, 0x7FF, 0x500, 0x300)]
     yield 12, [tag.bank(words << 11 | 0x200 | low) for low in (0, 0x400, *(1 << bit for bit in range(8)), 0x4FF)]
-    yield 14, [(tag.bank(other << 11) + 124 * "0")[: 4 + 4 * other] for other in range(1, 32) if other != words]
+    yield 14, [tag.bank(fewer << 11)[: 4 + 4 * fewer] for fewer in range(1, words)]
     yield 15, [f"{int(bank, 16) | 1 << bit:0{len(bank)}X}" for bit in range(zero_bits(tag))]
     if tag.has("partition"):
         other = tag.changed(tag.place("partition"), 7)
@@ -189,12 +189,12 @@ def bank_pairs(tag):
 
 
 def faulty_bank(tag, numbers):
-    """The tag's bank with the faults of these numbers."""
+    """The tag's bank with the faults of these numbers; for 14 it counts a word less than it has."""
     control = tag.control()
     for number in set(numbers) & set(AT_FAULT):
         place = tag.place(*AT_FAULT[number])
         tag = tag.changed(place, 1 if number == 19 else 2 ** tag.fields[place].bits - 1)
     tag = tag.changed(tag.place("header"), 0x38) if 13 in numbers else tag
     control += (0x100 if 11 in numbers else 0) + (0x200 if 12 in numbers else 0)
-    control += 0x800 if 14 in numbers else 0
-    return tag.bank(control) + ("0000" if 14 in numbers else "")
+    control -= 0x800 if 14 in numbers else 0
+    return tag.bank(control)

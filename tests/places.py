@@ -1,15 +1,14 @@
 """Texts and banks that are refused at the places of requests C-12 and C-13 in document 02, each with its number.
 
 tests/faults.py has faults of every kind; here are few of them, but at every place where a part can begin. tests/agree says which
-places there are; those of 20 are shown by tests/controls.py.
+places there are; those of 20 are shown by tests/controls.py, those of further words by tests/long_banks.py.
 """
 
 from faults import zero_bits
-from tags import TAG_START, control_fields, limit, scheme_tags, string_value, tags
+from tags import MOST_WORDS, TAG_START, control_fields, limit, scheme_tags, string_value, tags
 
 WRONG = "#"  # in no part that is taken
 TOO_LARGE = "9" * 31
-MOST_WORDS = 31
 CONTROLS = ((1, 0x00), (0, 0x01), (1, 0xFF))  # umi and att: the fields that a text can have differ in length
 
 

@@ -6,7 +6,7 @@
 import random
 import sys
 
-from tags import CHARACTERS, SCHEMES, TAG_START, Tag, limit, numeric_value, partitions, string_value
+from tags import CHARACTERS, MOST_WORDS, SCHEMES, TAG_START, Tag, limit, numeric_value, partitions, string_value
 
 BYTES = [chr(byte) for byte in range(256) if byte != 0x0A]
 USUAL = "0123456789.:%ABCDEFabf-_[]=xumit"
@@ -40,10 +40,14 @@ class Random:
             return numeric_value("0" * zeros + digits[zeros:])
         return self.below(limit(field)) >> (self.below(field.bits) if self.below(2) else 0)
 
+    def words(self, scheme):
+        """The scheme's word count, for one bank of four a larger one."""
+        return scheme.words if self.below(4) else scheme.words + 1 + self.below(MOST_WORDS - scheme.words)
+
     def tag(self):
-        """A third of the tags have control fields, but for the few whose fields are zero."""
+        """A third of the tags have control fields, but for the few whose fields are zero; the banks of a quarter further words."""
         scheme = self.choice(SCHEMES)
-        tag = Tag(scheme, self.choice(partitions(scheme)), self.value)
+        tag = Tag(scheme, self.choice(partitions(scheme)), self.value).lengthened(self.words(scheme))
         return tag if self.below(3) else tag.controlled(self.below(2), self.below(2) * self.below(256))
 
 
@@ -69,17 +73,21 @@ def mutated(random, tag):
 
 
 def random_bank(random):
-    """A bank with a scheme's header and word count and any bits after it; most have zeros where they must be.
+    """A bank with a scheme's header and words, and any bits after it; most have zeros where they must be.
 
-    Of four two have no other control bit, one any that a text can say, one any.
+    Of four two have no other control bit, one any that a text can say, one any. Of four one has further words, with
+    one bit of them set or none.
     """
     scheme = random.choice(SCHEMES)
     code = random.bits(16 * scheme.words - 8)
     zeros = 16 * scheme.words - scheme.bits + (24 if "zero" in scheme.parts else 0)
     if random.below(8):
         code = code >> zeros << zeros
-    control = scheme.words << 11 | random.bits(11) & random.choice((0, 0, 0x4FF, 0x7FF))
-    bank = f"{control:04X}{scheme.header:02X}{code:0{4 * scheme.words - 2}X}"
+    words = random.words(scheme)
+    further = 16 * (words - scheme.words)
+    code = code << further | (1 << random.below(further) if further and random.below(2) else 0)
+    control = words << 11 | random.bits(11) & random.choice((0, 0, 0x4FF, 0x7FF))
+    bank = f"{control:04X}{scheme.header:02X}{code:0{4 * words - 2}X}"
     return bank + f"{random.bits(64):016X}"[: 2 * random.below(9)] if random.below(4) == 0 else bank
 
 

@@ -1,6 +1,6 @@
 /* How much stack a call takes: the lines of standard input, texts and banks in hexadecimal, and texts of a megabyte go through each call
- * above a stack that is painted beforehand; what is no longer painted was used. Fails where a call takes more than BOUND bytes, or more
- * on a megabyte than on the lines. */
+ * above a stack that is painted beforehand; what is no longer painted was used. A text goes to its smallest bank and to one of 31 words,
+ * and the larger figure counts. Fails where a call takes more than BOUND bytes, or more on a megabyte than on the lines. */
 #include <pthread.h>
 #include <stdio.h>
 #include <string.h>
@@ -29,6 +29,18 @@ static size_t most(size_t before, call *function, const uint8_t *input, size_t l
     return bytes > before ? bytes : before;
 }
 
+static tagcodec_reply to_smallest(const uint8_t *tag, size_t length, uint8_t *out, size_t out_length) {
+    return tagcodec_text_to_bank(tag, length, 0, out, out_length);
+}
+
+static tagcodec_reply to_longest(const uint8_t *tag, size_t length, uint8_t *out, size_t out_length) {
+    return tagcodec_text_to_bank(tag, length, TAGCODEC_MOST_WORDS, out, out_length);
+}
+
+static size_t most_to_bank(size_t before, const uint8_t *tag, size_t length) {
+    return most(most(before, to_smallest, tag, length), to_longest, tag, length);
+}
+
 /* A bank in hexadecimal, in place; any other line is left as it is. */
 static size_t in_bytes(uint8_t *line, size_t length) {
     for (size_t i = 0; i + 1 < length; i += 2) {
@@ -51,7 +63,7 @@ static size_t on_a_megabyte(void) {
         size_t at = strlen(hostile[i].begun);
         memcpy(text, hostile[i].begun, at);
         for (size_t n = 0; at < LONG; n++) text[at++] = (uint8_t)hostile[i].repeated[n % strlen(hostile[i].repeated)];
-        bytes = most(bytes, tagcodec_text_to_bank, text, LONG);
+        bytes = most_to_bank(bytes, text, LONG);
     }
     return bytes;
 }
@@ -62,7 +74,7 @@ static void *measure(void *failed) {
         const uint8_t *end = memchr(lines + at, '\n', read - at);
         size_t length = (end ? (size_t)(end - lines) : read) - at;
         next = at + length + 1;
-        bank = most(bank, tagcodec_text_to_bank, lines + at, length);
+        bank = most_to_bank(bank, lines + at, length);
         length = in_bytes(lines + at, length);
         shown = most(shown, tagcodec_bank_to_text, lines + at, length);
         raw = most(raw, tagcodec_raw_line, lines + at, length);

@@ -14,6 +14,7 @@ from itertools import takewhile
 ROOT = pathlib.Path(__file__).resolve().parent.parent
 TAG_START = "urn:epc:tag:"
 RAW_START = "urn:epc:raw:"
+MOST_WORDS = 31
 
 # Table A-1 of the standard by its 7-bit codes, and the characters that a text escapes.
 CHARACTERS = [c for c in range(0x21, 0x7B) if c not in (0x23, 0x24, 0x40, 0x5B, 0x5C, 0x5D, 0x5E, 0x60)]
@@ -145,10 +146,14 @@ def control_fields(umi, att):
 
 
 class Tag:
-    """A tag of a scheme: `pick` gives the value of each field that a text writes. Its control bits are 0 at first."""
+    """A tag of a scheme: `pick` gives the value of each field that a text writes.
+
+    At first its control bits are 0, and its bank has as many words as the scheme needs.
+    """
 
     def __init__(self, scheme, partition, pick):
         self.scheme, self.partition = scheme, partition
+        self.words = scheme.words
         self.umi = self.att = 0
         self.fields = layout(scheme, partition)
         fixed = {"header": scheme.header, "partition": partition, "zeros": 0, "fill": 0}
@@ -179,6 +184,13 @@ class Tag:
         other.umi, other.att = umi, att
         return other
 
+    def lengthened(self, words):
+        """The tag in a bank of so many words, zeros in the further ones."""
+        assert self.scheme.words <= words <= MOST_WORDS
+        other = copy.copy(self)
+        other.words = words
+        return other
+
     def parts(self):
         return [field_text(self.fields[place], self.values[place]) for place in self.written()]
 
@@ -196,15 +208,16 @@ class Tag:
 
     def control(self):
         """The control word: the word count, bit 15h and bits 18h to 1Fh."""
-        return self.scheme.words << 11 | self.umi << 10 | self.att
+        return self.words << 11 | self.umi << 10 | self.att
 
     def bank(self, control=None):
         """The bank in hex; a control word other than the tag's own may be given."""
         code = 0
         for field, value in zip(self.fields, self.values):
             code = code << field.bits | value
+        code <<= 16 * (self.words - self.scheme.words)
         control = self.control() if control is None else control
-        return f"{control:04X}{code:0{4 * self.scheme.words}X}"
+        return f"{control:04X}{code:0{4 * self.words}X}"
 
 
 def smallest(field):

@@ -1,7 +1,7 @@
-//! What is measured: tags of each scheme in every row of its table, without control fields and with both, and hostile texts of any
-//! length.
+//! What is measured: tags of each scheme in every row of its table, without control fields and with both, in banks of any word count, and
+//! hostile texts of any length.
 
-use crate::codecs::{give, TEXT_TO_BANK};
+use crate::codecs::text_to_bank;
 
 /// What stands behind the company prefix, with its digits or bits (docs/01-scope.md, "The thirteen schemes", and request C-11 of
 /// docs/02-change-requests.md).
@@ -133,10 +133,10 @@ pub fn with_fields(text: &[u8], seeded: &mut Seeded) -> Vec<u8> {
     [start, fields.as_bytes(), named].concat()
 }
 
-/// The bank of a text that is a tag's.
-pub fn bank_of(text: &[u8]) -> Vec<u8> {
+/// The bank of a text that is a tag's, asked for in so many words.
+pub fn bank_of(text: &[u8], words: u32) -> Vec<u8> {
     let mut out = [0; 64];
-    let reply = give(TEXT_TO_BANK.proved, text, &mut out);
+    let reply = text_to_bank(words).proved.give(text, &mut out);
     assert_eq!(reply.number, 0, "{}", String::from_utf8_lossy(text));
     out[..reply.length].to_vec()
 }

@@ -1,16 +1,19 @@
-//! The figures of docs/FIGURES.md, as tables in Markdown: each call on each scheme, without and with control fields, long texts, and the
-//! two programs on lines.
+//! The figures of docs/FIGURES.md, as tables in Markdown: each call on each scheme, without and with control fields, both ways with long
+//! banks, long texts, and the two programs on lines.
 mod codecs;
 mod inputs;
 mod programs;
 mod timing;
 
-use codecs::{Pair, BANK_TO_TEXT, RAW_LINE, TEXT_TO_BANK};
+use codecs::{text_to_bank, Pair, BANK_TO_TEXT, MOST_WORDS, RAW_LINE, SMALLEST};
 use inputs::{bank_of, hostile, texts, with_fields, Seeded, HOSTILE, SCHEMES};
 use timing::{measure, Case, Times};
 
 /// How many tags of a scheme are gone through: too many for the processor to learn their branches.
 const TAGS: usize = 2100;
+
+/// The schemes of the long banks: one of 96 bits, and one with a string.
+const LONG: [&str; 2] = ["sgtin-96", "sgtin-198"];
 
 const LENGTHS: [usize; 5] = [100, 1_000, 10_000, 100_000, 1_000_000];
 
@@ -44,26 +47,35 @@ fn on_texts(call: &str, calls: Pair, tags: &[Tags]) -> Vec<Case> {
     tags.iter().map(|(name, texts)| case([call, name], calls, texts.clone())).collect()
 }
 
-/// A call on each scheme's banks.
-fn on_banks(call: &str, calls: Pair, tags: &[Tags]) -> Vec<Case> {
-    let banks = |texts: &Vec<Vec<u8>>| texts.iter().map(|text| bank_of(text)).collect();
+/// A call on each scheme's banks of so many words.
+fn on_banks(call: &str, calls: Pair, words: u32, tags: &[Tags]) -> Vec<Case> {
+    let banks = |texts: &Vec<Vec<u8>>| texts.iter().map(|text| bank_of(text, words)).collect();
     tags.iter().map(|(name, texts)| case([call, name], calls, banks(texts))).collect()
 }
 
 /// Each call on each scheme.
 fn calls() -> Vec<Case> {
     let tags = tags();
-    let mut cases = on_texts("text_to_bank", TEXT_TO_BANK, &tags);
-    cases.extend(on_banks("bank_to_text", BANK_TO_TEXT, &tags));
-    cases.extend(on_banks("raw_line", RAW_LINE, &tags));
+    let mut cases = on_texts("text_to_bank", text_to_bank(SMALLEST), &tags);
+    cases.extend(on_banks("bank_to_text", BANK_TO_TEXT, SMALLEST, &tags));
+    cases.extend(on_banks("raw_line", RAW_LINE, SMALLEST, &tags));
     cases
 }
 
 /// Both ways with both control fields, which the raw line leaves out.
 fn calls_with_fields() -> Vec<Case> {
     let tags = tags_with_fields();
-    let mut cases = on_texts("text_to_bank, both fields", TEXT_TO_BANK, &tags);
-    cases.extend(on_banks("bank_to_text, both fields", BANK_TO_TEXT, &tags));
+    let mut cases = on_texts("text_to_bank, both fields", text_to_bank(SMALLEST), &tags);
+    cases.extend(on_banks("bank_to_text, both fields", BANK_TO_TEXT, SMALLEST, &tags));
+    cases
+}
+
+/// Both ways with banks of the most words, zeros in the further ones.
+fn calls_with_long_banks() -> Vec<Case> {
+    let mut tags = tags();
+    tags.retain(|(name, _)| LONG.contains(name));
+    let mut cases = on_texts("text_to_bank, 31 words", text_to_bank(MOST_WORDS), &tags);
+    cases.extend(on_banks("bank_to_text, 31 words", BANK_TO_TEXT, MOST_WORDS, &tags));
     cases
 }
 
@@ -71,7 +83,7 @@ fn calls_with_fields() -> Vec<Case> {
 fn growth() -> Vec<Case> {
     let of = |(name, start, repeated): (&str, &str, &str), length: usize| {
         let text = hostile(start, repeated, length);
-        case([name, &length.to_string()], TEXT_TO_BANK, vec![text])
+        case([name, &length.to_string()], text_to_bank(SMALLEST), vec![text])
     };
     HOSTILE.iter().flat_map(|&kind| LENGTHS.map(|length| of(kind, length))).collect()
 }
@@ -114,6 +126,7 @@ fn main() {
     };
     print_calls(&calls());
     print_calls(&calls_with_fields());
+    print_calls(&calls_with_long_banks());
     print_growth();
     programs::print_lines(folder, tagline, second);
 }

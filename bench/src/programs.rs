@@ -1,4 +1,5 @@
 //! Lines a second of the two programs and of `cat`, from a file to nowhere.
+use crate::codecs::SMALLEST;
 use crate::inputs::{bank_of, texts, Seeded, SCHEMES};
 use std::fs::File;
 use std::path::Path;
@@ -19,7 +20,7 @@ fn lines() -> Vec<u8> {
         if i % 2 == 0 {
             lines.extend_from_slice(&tag[..tag.len() - usize::from(bad) * 5]);
         } else {
-            let mut bank = bank_of(tag);
+            let mut bank = bank_of(tag, SMALLEST);
             let bit = seeded.below(8 * bank.len() as u64) as usize;
             bank[bit / 8] ^= u8::from(bad) << (bit % 8);
             lines.extend(bank.iter().flat_map(|byte| format!("{byte:02X}").into_bytes()));

@@ -1,5 +1,5 @@
 //! Time by rounds: in each round every call is measured once, the two codecs by turns, and the shortest time of each is kept.
-use crate::codecs::{give, Call, Pair};
+use crate::codecs::{give_bank, give_text, Call, Pair, Reply};
 use std::hint::black_box;
 use std::time::Instant;
 
@@ -23,23 +23,30 @@ const ROUNDS: usize = 40;
 const LASTS: f64 = 200_000.0;
 
 impl Case {
-    /// Both codecs give the same number, place, length and bytes.
+    /// Both codecs give the same number, place, words, length and bytes.
     pub fn agree(&self) {
         for input in &self.inputs {
             let (mut a, mut b) = ([0xA5; 160], [0xA5; 160]);
-            let (proved, second) = (give(self.calls.proved, input, &mut a), give(self.calls.second, input, &mut b));
+            let (proved, second) = (self.calls.proved.give(input, &mut a), self.calls.second.give(input, &mut b));
             assert_eq!(proved, second, "{:?}", self.labels);
             assert_eq!(a, b, "{:?}", self.labels);
         }
     }
 
+    /// Which kind of call it is, is settled before the time is taken.
     fn once(&self, call: Call, times: usize) -> f64 {
-        let call = black_box(call);
+        match black_box(call) {
+            Call::Text(call, words) => self.taken(times, |text, out| give_text(call, text, words, out)),
+            Call::Bank(call) => self.taken(times, |bank, out| give_bank(call, bank, out)),
+        }
+    }
+
+    fn taken(&self, times: usize, give: impl Fn(&[u8], &mut [u8]) -> Reply) -> f64 {
         let mut out = [0; 160];
         let began = Instant::now();
         for _ in 0..times {
             for input in &self.inputs {
-                let _ = black_box(give(call, black_box(input), black_box(&mut out)));
+                let _ = black_box(give(black_box(input), black_box(&mut out)));
             }
         }
         began.elapsed().as_nanos() as f64 / (times * self.inputs.len()) as f64

@@ -1,7 +1,14 @@
 //! What a call gives.
 
-/// The length written, or the refusal, and then nothing is written.
-pub type Answer = Result<usize, Refusal>;
+/// What was written, or the refusal, and then nothing is written.
+pub type Answer = Result<Written, Refusal>;
+
+/// How many bytes were written, and the word count of the bank that was written or read.
+#[derive(Clone, Copy, Debug, PartialEq, Eq)]
+pub struct Written {
+    pub length: usize,
+    pub words: usize,
+}
 
 /// The number of the first rule that was broken, and the place: in a text the offset of the first
 /// character of the part or control field that was refused, or where the colon behind control fields is

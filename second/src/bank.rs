@@ -1,6 +1,6 @@
 //! The bank's control word and code words; the raw line; which line the screen shows.
 
-use crate::answer::{Answer, Refusal};
+use crate::answer::{Answer, Refusal, Written};
 use crate::line::Line;
 use crate::tables::*;
 
@@ -37,7 +37,7 @@ impl<'a> Bank<'a> {
     }
 }
 
-/// Writes the raw line of a bank: its length, or the refusal and nothing written.
+/// Writes the raw line of a bank: its length and the bank's words, or the refusal and nothing written.
 pub fn raw_line(bank: &[u8], out: &mut [u8]) -> Answer {
     if out.len() < TEXT_ROOM {
         return Err(Refusal::without_place(refusal::OUTPUT));
@@ -52,7 +52,7 @@ pub fn raw_line(bank: &[u8], out: &mut [u8]) -> Answer {
     }
     line.push(b".x");
     line.hex(bank.code);
-    Ok(line.length())
+    Ok(Written { length: line.length(), words: bank.words() })
 }
 
 /// The line on the screen, by the number of the bank call.

@@ -58,16 +58,11 @@ impl BitReader {
 
     /// The next 1 to 64 bits.
     pub fn take(&mut self, bits: usize) -> u64 {
-        let value = self.at(self.place, bits);
-        self.place += bits;
-        value
-    }
-
-    /// The 1 to 64 bits from a place on, wherever the reader is.
-    pub fn at(&self, place: usize, bits: usize) -> u64 {
         debug_assert!((1..=64).contains(&bits));
         let mut window = [0; Self::WINDOW];
-        window.copy_from_slice(&self.bytes[place / 8..][..Self::WINDOW]);
-        (u128::from_be_bytes(window) << (place % 8) >> (128 - bits)) as u64
+        window.copy_from_slice(&self.bytes[self.place / 8..][..Self::WINDOW]);
+        let value = u128::from_be_bytes(window) << (self.place % 8) >> (128 - bits);
+        self.place += bits;
+        value as u64
     }
 }

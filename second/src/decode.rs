@@ -1,7 +1,7 @@
 //! Bank to text: the control fields, then each part of the scheme, take their bits and give their
-//! characters.
+//! characters. All bits behind the last part are zero, those of further words too.
 
-use crate::answer::{Answer, Refusal};
+use crate::answer::{Answer, Refusal, Written};
 use crate::bank::Bank;
 use crate::bits::BitReader;
 use crate::characters;
@@ -9,20 +9,21 @@ use crate::control::ControlFields;
 use crate::line::Line;
 use crate::tables::*;
 
-/// Writes the tag's text of a bank: its length, or the refusal and nothing written.
+/// Writes the tag's text of a bank: its length and the bank's words, or the refusal and nothing written.
 pub fn bank_to_text(bank: &[u8], out: &mut [u8]) -> Answer {
     if out.len() < TEXT_ROOM {
         return Err(Refusal::without_place(refusal::OUTPUT));
     }
     let bank = Bank::new(bank)?;
     let scheme = scheme_of(&bank)?;
+    zeros(bank.code, scheme.zero_from())?;
     let mut room = [0; TEXT_ROOM];
     let length = Decoder::new(scheme, &bank, &mut room).text(scheme)?;
     out[..length].copy_from_slice(&room[..length]);
-    Ok(length)
+    Ok(Written { length, words: bank.words() })
 }
 
-/// The scheme that the control word and the header name.
+/// The scheme that the control word and the header name; the bank has all its words, and may have more.
 fn scheme_of(bank: &Bank) -> Result<&'static Scheme, Refusal> {
     if bank.toggle() {
         return Err(Refusal::new(refusal::TOGGLE, address::TOGGLE));
@@ -32,12 +33,27 @@ fn scheme_of(bank: &Bank) -> Result<&'static Scheme, Refusal> {
     }
     let no_scheme = Refusal::new(refusal::HEADER, address::CODE);
     let scheme = Scheme::by_header(bank.code[0]).ok_or(no_scheme)?;
-    if bank.words() != scheme.words {
+    if bank.words() < scheme.words {
         return Err(Refusal::new(refusal::WORDS, address::WORD_COUNT));
     }
     Ok(scheme)
 }
 
+/// The code bits from `start` on are zero; if not, the place is the first that is one.
+fn zeros(code: &[u8], start: usize) -> Result<(), Refusal> {
+    let mut looked_at = 0xFF >> (start % 8);
+    for (place, byte) in code.iter().enumerate().skip(start / 8) {
+        let ones = byte & looked_at;
+        if ones != 0 {
+            let first = 8 * place + ones.leading_zeros() as usize;
+            return Err(Refusal::new(refusal::NOT_ZERO, address::CODE + first));
+        }
+        looked_at = 0xFF;
+    }
+    Ok(())
+}
+
+/// `bits` are those of the scheme's own words.
 struct Decoder<'a> {
     bits: BitReader,
     line: Line<'a>,
@@ -50,11 +66,12 @@ impl<'a> Decoder<'a> {
         line.push(TAG_START);
         ControlFields::of(bank.control).write(&mut line);
         line.push(scheme.name);
-        Decoder { bits: BitReader::new(bank.code), line, row: &ROWS[0] }
+        let own = &bank.code[..scheme.words * WORD_BYTES];
+        Decoder { bits: BitReader::new(own), line, row: &ROWS[0] }
     }
 
-    fn text(mut self, scheme: &Scheme) -> Answer {
-        self.zeros(scheme.zero_from(), scheme.words * WORD_BITS)?;
+    /// The length of the text.
+    fn text(mut self, scheme: &Scheme) -> Result<usize, Refusal> {
         self.bits.take(HEADER_BITS);
         let mut separator = b":";
         for part in scheme.parts {
@@ -63,19 +80,6 @@ impl<'a> Decoder<'a> {
             separator = b".";
         }
         Ok(self.line.length())
-    }
-
-    /// The code bits from `start` on and before `end`, 24 at the most, are zero; if not, the place is the
-    /// first that is one.
-    fn zeros(&self, start: usize, end: usize) -> Result<(), Refusal> {
-        let value = if start < end { self.bits.at(start, end - start) } else { 0 };
-        match value.checked_ilog2() {
-            Some(after) => {
-                let first = end - 1 - after as usize;
-                Err(Refusal::new(refusal::NOT_ZERO, address::CODE + first))
-            }
-            None => Ok(()),
-        }
     }
 
     /// The address of the next bit.

@@ -1,17 +1,21 @@
 //! Text to bank: the control fields, then each part of the scheme, take their characters and give their
-//! bits.
+//! bits. Zeros follow, to the end of the words that are asked for.
 
-use crate::answer::{Answer, Refusal};
+use crate::answer::{Answer, Refusal, Written};
 use crate::bits::BitWriter;
 use crate::characters;
 use crate::control::ControlFields;
 use crate::numerals;
 use crate::tables::*;
 
-/// Writes the bank of a tag's text: its length, or the refusal and nothing written.
-pub fn text_to_bank(text: &[u8], out: &mut [u8]) -> Answer {
+/// Writes the bank of a tag's text in so many words, for 0 in as few as its scheme needs: its length and
+/// its words, or the refusal and nothing written.
+pub fn text_to_bank(text: &[u8], words: usize, out: &mut [u8]) -> Answer {
     if out.len() < BANK_ROOM {
         return Err(Refusal::without_place(refusal::OUTPUT));
+    }
+    if words > MOST_WORDS {
+        return Err(Refusal::without_place(refusal::TOO_MANY_WORDS));
     }
     // the refusal of what the text ends with
     let refused = |number: u8, rest: &[u8]| Refusal::new(number, text.len() - rest.len());
@@ -21,13 +25,17 @@ pub fn text_to_bank(text: &[u8], out: &mut [u8]) -> Answer {
     let no_name = refused(refusal::NAME, named);
     let (name, parts) = split(named, b':').ok_or(no_name)?;
     let scheme = Scheme::by_name(name).ok_or(no_name)?;
-    let mut encoder = Encoder::new(scheme, fields, parts);
+    let words = if words == SMALLEST { scheme.words } else { words };
+    let mut encoder = Encoder::new(scheme, words, fields, parts);
     if let Err(number) = encoder.parts(scheme) {
         return Err(refused(number, encoder.text));
     }
-    let length = WORD_BYTES * (1 + scheme.words);
+    if words < scheme.words {
+        return Err(Refusal::without_place(refusal::TOO_FEW_WORDS));
+    }
+    let length = WORD_BYTES * (1 + words);
     out[..length].copy_from_slice(&encoder.bits.finish()[..length]);
-    Ok(length)
+    Ok(Written { length, words })
 }
 
 /// `text` begins with the part that is being read.
@@ -38,16 +46,16 @@ struct Encoder<'a> {
 }
 
 impl<'a> Encoder<'a> {
-    fn new(scheme: &Scheme, fields: ControlFields, text: &'a [u8]) -> Self {
+    fn new(scheme: &Scheme, words: usize, fields: ControlFields, text: &'a [u8]) -> Self {
         let mut bits = BitWriter::new();
-        let control = (scheme.words as u16) << control::WORD_COUNT_SHIFT | fields.bits();
+        let control = (words as u16) << control::WORD_COUNT_SHIFT | fields.bits();
         bits.push(control.into(), WORD_BITS);
         bits.push(scheme.header.into(), HEADER_BITS);
         Encoder { text, bits, row: &ROWS[0] }
     }
 
     /// The bits of all parts, or the number of the first refused, which `text` then begins with. Zeros
-    /// after the parts, and fill bits, are those that the writer ends with.
+    /// after the parts, fill bits and further words are those that the writer ends with.
     fn parts(&mut self, scheme: &Scheme) -> Result<(), u8> {
         if let Some((last, before)) = scheme.parts.split_last() {
             for part in before {

@@ -1,10 +1,10 @@
-//! A second codec for the tags of docs/01-scope.md and of requests C-11 to C-13 in
+//! A second codec for the tags of docs/01-scope.md and of requests C-11, C-12, C-13 and C-15 in
 //! docs/02-change-requests.md, written from those papers alone, to compare with.
 //!
 //! A scheme is a list of parts, and each part turns its characters into bits and its bits into
 //! characters; the lists and all numbers stand in `tables`. Control fields, which may stand before a
-//! scheme's name, are bits of the word before its code. No call allocates, and none touches its output
-//! before it knows its answer.
+//! scheme's name, are bits of the word before its code. A bank may have more words than its scheme needs,
+//! all zero. No call allocates, and none touches its output before it knows its answer.
 
 mod answer;
 mod bank;
@@ -18,7 +18,7 @@ mod numerals;
 pub mod tables;
 mod tagline;
 
-pub use answer::{Answer, Refusal};
+pub use answer::{Answer, Refusal, Written};
 pub use bank::{raw_line, screen};
 pub use decode::bank_to_text;
 pub use encode::text_to_bank;

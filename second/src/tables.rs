@@ -1,5 +1,5 @@
-//! Every number of document 01 and of document 02's requests C-11 to C-13, typed from their tables and
-//! sentences; `schemes` has those of the schemes and of the partition tables.
+//! Every number of document 01 and of document 02's requests C-11, C-12, C-13 and C-15, typed from their
+//! tables and sentences; `schemes` has those of the schemes and of the partition tables.
 
 mod schemes;
 
@@ -8,6 +8,7 @@ pub use schemes::*;
 /// Numbers of refusals, "Numbers given, and when", in the order in which they are looked for.
 pub mod refusal {
     pub const OUTPUT: u8 = 1;
+    pub const TOO_MANY_WORDS: u8 = 21;
     pub const START: u8 = 2;
     pub const CONTROL_FIELDS: u8 = 20;
     pub const NAME: u8 = 3;
@@ -16,6 +17,7 @@ pub mod refusal {
     pub const SECOND: u8 = 6;
     pub const LAST_FORM: u8 = 7;
     pub const LAST_SIZE: u8 = 8;
+    pub const TOO_FEW_WORDS: u8 = 22;
     pub const LENGTH: u8 = 9;
     pub const NO_WORDS: u8 = 10;
     pub const TOGGLE: u8 = 11;
@@ -35,6 +37,10 @@ pub const SHOWN_RAW: std::ops::RangeInclusive<u8> = refusal::TOGGLE..=refusal::S
 /// The least output of a call that writes a bank, and of one that writes a text.
 pub const BANK_ROOM: usize = 64;
 pub const TEXT_ROOM: usize = 160;
+
+/// The most words that a bank can count, and the count that asks for as few as the scheme needs.
+pub const MOST_WORDS: usize = 31;
+pub const SMALLEST: usize = 0;
 
 /// The longest lines of the program: a text, and a bank in hex.
 pub const TEXT_LINE: usize = 200;

@@ -27,10 +27,10 @@ fn reply_to_text(text: &[u8], answer: &mut Line) {
         return answer.push(b"X");
     }
     let mut bank = [0; BANK_ROOM];
-    match text_to_bank(text, &mut bank) {
-        Ok(length) => {
+    match text_to_bank(text, SMALLEST, &mut bank) {
+        Ok(written) => {
             answer.push(b"B ");
-            answer.hex(&bank[..length]);
+            answer.hex(&bank[..written.length]);
         }
         Err(refusal) => reply_number(b"N ", refusal.number, answer),
     }
@@ -47,9 +47,9 @@ fn reply_to_hex(line: &[u8], answer: &mut Line) {
 fn reply_to_bank(bank: &[u8], answer: &mut Line) {
     let mut tag = [0; TEXT_ROOM];
     match bank_to_text(bank, &mut tag) {
-        Ok(length) => {
+        Ok(written) => {
             answer.push(b"T ");
-            answer.push(&tag[..length]);
+            answer.push(&tag[..written.length]);
         }
         Err(refusal) => reply_to_refused(bank, refusal.number, answer),
     }
@@ -58,7 +58,7 @@ fn reply_to_bank(bank: &[u8], answer: &mut Line) {
 /// The number and the line on the screen, or the number alone where that line is empty.
 fn reply_to_refused(bank: &[u8], number: u8, answer: &mut Line) {
     let mut raw = [0; TEXT_ROOM];
-    let length = raw_line(bank, &mut raw).unwrap_or(0);
+    let length = raw_line(bank, &mut raw).map_or(0, |written| written.length);
     let shown = screen(&[], &raw[..length], number);
     if shown.is_empty() {
         return reply_number(b"N ", number, answer);

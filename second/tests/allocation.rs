@@ -45,8 +45,11 @@ fn no_call_allocates() {
         "urn:epc:tag:[att=x01][umi=1]:gid-96:1.2.3",
         "",
     ];
+    let mut long = [0; 64];
+    (long[0], long[2]) = (31 << 3, 0x35);
     let banks = [
-        &[0x30, 0, 0x35, 0, 0, 0, 0, 0, 0, 0, 0, 0, 0, 0][..],
+        &long[..],
+        &[0x30, 0, 0x35, 0, 0, 0, 0, 0, 0, 0, 0, 0, 0, 0],
         &[0x34, 0xFF, 0x3C, 0, 0, 0, 0, 0, 0, 0, 0, 0, 0, 0],
         &[0x30, 0, 0x3F, 0, 0, 0, 0, 0, 0, 0, 0, 0, 0, 10],
         &[8, 0, 1, 1],
@@ -56,7 +59,9 @@ fn no_call_allocates() {
     let mut answer = Vec::with_capacity(1000);
     let count = allocations(|| {
         for input in texts.map(str::as_bytes) {
-            let _ = second::text_to_bank(input, &mut bank);
+            for words in [0, 5, 31, 32] {
+                let _ = second::text_to_bank(input, words, &mut bank);
+            }
             second::reply(input, &mut answer);
         }
         for input in banks {

@@ -1,5 +1,6 @@
 //! The typed tables, written as document 01 writes them, are the rows that stand there; what document
-//! 02 says of the schemes that it adds, of the places of refusals, and of control fields, stands in it.
+//! 02 says of the schemes that it adds, of the places of refusals, of control fields, and of word counts,
+//! stands in it.
 
 use second::tables::*;
 
@@ -135,4 +136,24 @@ fn control_fields_of_document_02() {
     assert_eq!(control::TOGGLE, bits(address::TOGGLE, address::TOGGLE));
     let (number, start, name) = (refusal::CONTROL_FIELDS, refusal::START, refusal::NAME);
     assert!(request.contains(&format!("new {number}, between {start} and {name}")));
+}
+
+#[test]
+fn word_counts_of_document_02() {
+    let request = request("C-15");
+    assert!(request.contains(&format!("is told the W to write, {SMALLEST} for the smallest")));
+    let (fewer, ones) = (refusal::WORDS, refusal::NOT_ZERO);
+    assert!(request.contains(&format!(
+        "{fewer} only for fewer words than the scheme needs; {ones} also covers the further words"
+    )));
+    let (many, after) = (refusal::TOO_MANY_WORDS, refusal::OUTPUT);
+    assert!(request.contains(&format!(
+        "new {many}, given right after {after} in text to bank, if the W asked for is above {MOST_WORDS}"
+    )));
+    let (few, after) = (refusal::TOO_FEW_WORDS, refusal::LAST_SIZE);
+    assert!(request.contains(&format!(
+        "new {few}, after {after}, if it is neither {SMALLEST} nor at least the scheme's count"
+    )));
+    assert_eq!(usize::from(u16::MAX >> control::WORD_COUNT_SHIFT), MOST_WORDS);
+    assert_eq!(BANK_ROOM, WORD_BYTES * (1 + MOST_WORDS));
 }

@@ -155,9 +155,9 @@ fn control_bits_and_headers() {
             let bank = ones(ones(good.clone(), 0x16, 0x17), address, address + 1);
             assert_eq!(refused_bank(&bank), (12, 0x16));
         }
-        let other = [&[8 * scheme.words as u8 + 8][..], &good[1..], &[0; 2]].concat();
-        assert_eq!(refused_bank(&other), (14, 0x10));
-        assert_eq!(refused_bank(&ones(other, 0x18, 0x20)), (14, 0x10));
+        let fewer = [&[8 * scheme.words as u8 - 8][..], &good[1..]].concat();
+        assert_eq!(refused_bank(&fewer), (14, 0x10));
+        assert_eq!(refused_bank(&ones(fewer, 0x18, 0x20)), (14, 0x10));
     }
     assert_eq!(bank("0800 0000"), (13, 0x20));
     assert_eq!(bank("3000 FF74257BF7194E4000001A85"), (13, 0x20));

@@ -2,8 +2,8 @@
 
 mod common;
 
-use common::{bytes, decode, encode, encode_bytes, raw, Call};
-use second::Refusal;
+use common::{bytes, decode, encode, encode_bytes, raw};
+use second::{Answer, Refusal};
 
 fn tag(rest: &str) -> Result<Vec<u8>, u8> {
     encode(&format!("urn:epc:tag:{rest}"))
@@ -26,8 +26,9 @@ fn assert_taken(rests: &[&str]) {
 fn refusal_1_short_outputs() {
     let text = b"urn:epc:tag:gid-96:1.2.3";
     let bank = bytes("3000 350000001000002000000003");
+    type Call = fn(&[u8], &mut [u8]) -> Answer;
     for (call, input, room) in [
-        (second::text_to_bank as Call, &text[..], 64),
+        ((|text, out| second::text_to_bank(text, 0, out)) as Call, &text[..], 64),
         (second::bank_to_text, &bank[..], 160),
         (second::raw_line, &bank[..], 160),
     ] {
@@ -35,11 +36,7 @@ fn refusal_1_short_outputs() {
             for input in [input, b"", b"?"] {
                 let mut out = vec![0x5A; length];
                 let refusal = Refusal { number: 1, place: 0 };
-                assert_eq!(
-                    call(input, &mut out),
-                    Err(refusal),
-                    "1 comes before every other number"
-                );
+                assert_eq!(call(input, &mut out), Err(refusal), "1 comes before all others");
                 assert!(out.iter().all(|&byte| byte == 0x5A));
             }
         }
@@ -194,8 +191,9 @@ fn refusals_11_and_12_for_every_control_word() {
             0x0000..=0x07FF => Some(10),
             _ if control & 0x0100 != 0 => Some(11),
             _ if control & 0x0200 != 0 => Some(12),
+            0x0800..=0x2FFF => Some(14),
             0x3000..=0x37FF => None,
-            _ => Some(14),
+            0x3800..=0xFFFF => Some(15),
         };
         assert_eq!(decode(&bank).err(), expected, "{control:04X}");
         assert_eq!(raw(&bank).err(), expected.filter(|&number| number == 10));

@@ -1,10 +1,11 @@
-//! Tags made from the tables at every partition value, with control fields and without: their bank as a
-//! row of binary digits, and each from the other. Changed texts and banks: what is taken comes back as it
-//! was.
+//! Tags made from the tables at every partition value, with control fields and without, some in more words
+//! than they need: their bank as a row of binary digits, and each from the other. Changed texts and banks:
+//! what is taken comes back as it was.
 
 mod common;
 
-use common::{assert_pair, bytes, decode, encode_bytes, raw, Random};
+use common::{assert_pair, assert_pair_in, bytes, decode, encode_bytes, encode_in, raw};
+use common::{word_count, Random};
 use second::tables::*;
 
 const CHARACTERS: &[u8] =
@@ -25,9 +26,9 @@ impl Tag {
         self.separator = '.';
     }
 
-    fn bank(&self, scheme: &Scheme) -> Vec<u8> {
-        let all = format!("{:05b}{:011b}{}", scheme.words, self.control, self.code);
-        let all = format!("{all:0<width$}", width = 16 + 16 * scheme.words);
+    fn bank(&self, words: usize) -> Vec<u8> {
+        let all = format!("{words:05b}{:011b}{}", self.control, self.code);
+        let all = format!("{all:0<width$}", width = 16 + 16 * words);
         (0..all.len() / 8).map(|i| u8::from_str_radix(&all[8 * i..8 * i + 8], 2).unwrap()).collect()
     }
 }
@@ -105,7 +106,13 @@ fn numeric_string(tag: &mut Tag, kind: NumericString, pick: &mut impl FnMut(u64)
 }
 
 fn assert_tag(scheme: &Scheme, tag: &Tag) {
-    assert_pair(&tag.text, &tag.bank(scheme));
+    assert_pair(&tag.text, &tag.bank(scheme.words));
+}
+
+/// A word count that a bank of the scheme can have; one in two, and some more, is the scheme's own.
+fn words(scheme: &Scheme, random: &mut Random) -> usize {
+    let more = random.below(2) * random.below(32 - scheme.words as u64);
+    scheme.words + more as usize
 }
 
 #[test]
@@ -131,7 +138,10 @@ fn random_tags() {
     for round in 0..20_000 {
         let scheme = &SCHEMES[round % SCHEMES.len()];
         let partition = random.below(7) as usize;
-        assert_tag(scheme, &tag(scheme, partition, &mut |limit| random.below(limit)));
+        let tag = tag(scheme, partition, &mut |limit| random.below(limit));
+        assert_tag(scheme, &tag);
+        let words = words(scheme, &mut random);
+        assert_pair_in(words, &tag.text, &tag.bank(words));
     }
 }
 
@@ -170,7 +180,8 @@ fn changed_banks() {
     for round in 0..60_000 {
         let scheme = &SCHEMES[round % SCHEMES.len()];
         let partition = random.below(7) as usize;
-        let mut bank = tag(scheme, partition, &mut |limit| random.below(limit)).bank(scheme);
+        let tag = tag(scheme, partition, &mut |limit| random.below(limit));
+        let mut bank = tag.bank(words(scheme, &mut random));
         for _ in 0..=random.below(2) {
             let bit = random.below(8 * bank.len() as u64) as usize;
             bank[bit / 8] ^= 0x80 >> (bit % 8);
@@ -187,9 +198,10 @@ fn random_codes_under_a_good_header() {
     let (mut taken, mut refused) = (0, [0; 20]);
     for round in 0..60_000 {
         let scheme = &SCHEMES[round % SCHEMES.len()];
-        let control = scheme.words << 11 | (random.any() & 0x04FF) as usize;
+        let words = words(scheme, &mut random);
+        let control = words << 11 | (random.any() & 0x04FF) as usize;
         let mut bank = bytes(&format!("{control:04X}{:02X}", scheme.header));
-        bank.resize_with(2 + 2 * scheme.words, || random.any() as u8);
+        bank.resize_with(2 + 2 * words, || random.any() as u8);
         if random.below(8) > 0 {
             clear_from(&mut bank, 16 + scheme.zero_from());
         }
@@ -204,12 +216,14 @@ fn clear_from(bank: &mut [u8], first: usize) {
     }
 }
 
-/// Whether a bank is taken: then its text gives it back; if not, the refusal is counted, and from 11 on
-/// there is a raw line.
+/// Whether a bank is taken: then its text gives it back in as many words; if not, the refusal is counted,
+/// and from 11 on there is a raw line.
 fn bank_comes_back(bank: &[u8], refused: &mut [usize; 20]) -> bool {
     match decode(bank) {
         Ok(text) => {
-            assert_eq!(encode_bytes(text.as_bytes()).as_deref(), Ok(bank), "{text}");
+            let words = word_count(bank);
+            let again = encode_in(words, text.as_bytes());
+            assert_eq!(again.as_deref(), Ok(&bank[..2 + 2 * words]), "{text}");
             true
         }
         Err(number) => {

@@ -29,7 +29,7 @@ use Rattle.scheme.proofs.Widths.{parts-narrow}
 use Rattle.fields.specs.BitReaders.{LiesInCode, codeField}
 use Rattle.bank.specs.Reading.{Coded, shapeOf}
 use Rattle.tens.specs.Numerics.{numericOf}
-use Rattle.bank.proofs.Sizes.{Inside, sizes, Roomy, roomy}
+use Rattle.bank.proofs.Sizes.{sizes, Roomy, roomy, roomier}
 use Rattle.bank.proofs.Stages.{coded-tag}
 use Rattle.bank.proofs.Numbers.{referenceAddress}
 use Rattle.bank.proofs.Numbers as Numbers
@@ -42,8 +42,8 @@ pub refuses : {r : Reading} {n p q : ℕ} {a : Answer Tag} → r ≡ refusal n p
 refuses {n = n} e here h = e ∙ ap (refusal n) here ∙ sym (ap readingOf h)
 
 module _ (b : List ℕ) (s : Scheme) (p : Parts) (c : Coded b s p) where
-  clean : Clean b (words s)
-  clean = clean-of b (words s) (c .clean)
+  clean : Clean b (wordCount b)
+  clean = clean-of b (wordCount b) (c .clean)
 
   pub long : bankSize (wordCount b) ≤ length b
   long = clean .long
@@ -56,7 +56,7 @@ module _ (b : List ℕ) (s : Scheme) (p : Parts) (c : Coded b s p) where
   two = clean .two
 
   pub bytes : bankSize (words s) ≤ length b
-  bytes = rw (clean .count) long
+  bytes = omega (arith, c .enough, long)
 
   pub lies : (at width : ℕ) → width ≤ 64 → at + width ≤ 16 * words s → LiesInCode at width (length b)
   lies at width n h = record { narrow = n; first = omega arith; small = omega (arith, few-words); inside = omega (arith, bytes) }
@@ -68,7 +68,7 @@ module _ (b : List ℕ) (s : Scheme) (p : Parts) (c : Coded b s p) where
 module _ (b : List ℕ) (s : Scheme) (body : Body) (c : Coded b s (F body)) where
   -- the room, in the bank's own word count
   room : (P : ℕ) → P < 7 → Roomy (wordCount b) (rowAt P) (shapeOf body (rowAt P))
-  room P h = rw (clean b s (F body) c .count) at (roomy s body (c .parts) P h)
+  room P h = roomier (c .enough) (roomy s body (c .parts) P h)
 
   -- the filter and the partition value lie before the prefix
   pub prefix-inside : 14 ≤ 16 * words s
@@ -115,7 +115,7 @@ pub three-integers : (b : List ℕ) (s : Scheme) (x y z : ℕ) → Coded b s (In
     → readingOf (tagOfBank b) ≡ record { number = 0; place = 0; tag = record { scheme = s; control = controlFields b; filter = 0; prefix = codeField b 8 x; digits = 0; reference = codeField b (8 + x) y; serial = codeField b (8 + x + y) z; characters = replicate 20 0; count = 0 } }
 three-integers b s x y z c =
     let p = Integers x y z in
-    let w : Inside (wordCount b) p = rw (clean b s p c .count) at (rw (c .parts) at (sizes s .inside)) in
+    let w : 8 + x + y + z ≤ 16 * wordCount b = omega (arith, c .enough, rw (c .parts) at (sizes s .inside)) in
     let l = long b s p c in
     ap readingOf (parts-tag b s p c)
     ∙ rw (record-by s (controlFields b) p _ (c .parts), drop-drop x 8 (codeIn b), drop-drop y (8 + x) (codeIn b), ← code-seen b l 8 x (omega arith), ← code-seen b l (8 + x) y (omega arith), ← code-seen b l (8 + x + y) z (omega arith), value-shortest 10 (lit< tt), value-shortest 10 (lit< tt), value-shortest 10 (lit< tt))

@@ -1,5 +1,5 @@
 -- The header, the words and the zeros behind the parts, in the code's own terms: o is what the header names, and l the outline of its scheme.
-use Prim.Native.Nat.{ℕ, _+_, _-_, _*_, _≤_}
+use Prim.Native.Nat.{ℕ, _+_, _-_, _*_, _≤_, _<_}
 use mathlib.Core.Path.{_≡_, refl, sym, ap, _∙_}
 use mathlib.Core.List.{List}
 use mathlib.Core.Option.{Option, none, some}
@@ -7,22 +7,20 @@ use native.Mathlib.Omega.{arith}
 use lib.Dec.{lit≤}
 use lib.ListN.{length}
 use Rattle.rules.specs.Answers.{refused, taken}
-use Rattle.rules.specs.Bytes.{upto}
 use Rattle.rules.specs.declared.Scheme.{Scheme}
 use Rattle.rules.specs.Schemes.{schemes, about, words, zeroBits}
-use Rattle.rules.specs.Coding.{binary}
+use Rattle.rules.specs.Coding.{wordCount}
 use Rattle.rules.specs.Conditions.{zerosFrom}
 use Rattle.rules.specs.BankNumbers.{headed, controlIn, tagOfBank}
 use Rattle.rules.proofs.Codes as Codes
-use Rattle.rules.proofs.BankReads.{clean-of}
+use Rattle.rules.proofs.BankReads.{at-lt, clean-of}
 use Rattle.scheme.specs.declared.outlines.Outline.{Outline}
 use Rattle.scheme.specs.declared.outlines.Headed.{Headed}
 use Rattle.scheme.specs.declared.outlines.Headed.the-variants.{Is, Unlisted}
 use Rattle.scheme.specs.Outlines.{outlineOf, named, headedBy}
-use Rattle.fields.specs.BitReaders.{LiesInCode, codeField}
+use Rattle.fields.specs.BitReaders.{LiesInCode, codeField, firstOne}
 use Rattle.bank.specs.Reading.{Coded}
-use Rattle.bank.proofs.Sizes.{sizes}
-use Rattle.bank.proofs.Stages.{unlisted, other-words, one-after}
+use Rattle.bank.proofs.Stages.{unlisted, few-words, one-after, all-zeros}
 
 -- what the option is that is named so
 named-none : (o : Option Scheme) → named o ≡ Unlisted → o ≡ none
@@ -36,12 +34,14 @@ named-some (some t) s e = cc
 pub header-lies : (b : List ℕ) (W : ℕ) → controlIn b ≡ taken W → LiesInCode 0 8 (length b)
 header-lies b W c = let k = clean-of b W c in record { narrow = lit≤ tt; first = lit≤ tt; small = lit≤ tt; inside = omega (arith, k .long, k .some-words) }
 
+pub few-counted : (b : List ℕ) (W : ℕ) → controlIn b ≡ taken W → W ≤ 31
+few-counted b W c = omega (arith, clean-of b W c .count, at-lt b 0x10 5)
+
 -- the parts of a code in W words end z bits before `bits`, and what follows can be read
 pub record Ended (bits z W bytes : ℕ) : Type 0 where
   pub zeros : z ≤ bits
   pub inside : bits - z ≤ 16 * W
   pub few : W ≤ 31
-  pub narrow : 16 * W - (bits - z) ≤ 64
   pub long : 2 + 2 * W ≤ bytes
 
 module _ (b : List ℕ) (W : ℕ) (c : controlIn b ≡ taken W) (h : ℕ) (eh : h ≡ codeField b 0 8) (o : Headed) (eo : o ≡ headedBy h) where
@@ -59,12 +59,12 @@ module _ (b : List ℕ) (W : ℕ) (c : controlIn b ≡ taken W) (h : ℕ) (eh : 
     words-are : l .words ≡ words s
     words-are = ap (λ l. l .words) el
 
-    pub wrong-words : ¬ (W ≡ l .words) → tagOfBank b ≡ refused 14 0x10
-    wrong-words h = other-words b W c s found (λ e. h (e ∙ sym words-are))
+    pub too-few : W < l .words → tagOfBank b ≡ refused 14 0x10
+    too-few h = few-words b W c s found (omega (arith, words-are))
 
-    module _ (ew : W ≡ l .words) (z : ℕ) (ez : z ≡ zeroBits (l .parts)) where
-      words-same : W ≡ words s
-      words-same = ew ∙ words-are
+    module _ (ew : l .words ≤ W) (z : ℕ) (ez : z ≡ zeroBits (l .parts)) where
+      enough : words s ≤ W
+      enough = omega (arith, words-are)
 
       zeros-are : z ≡ zeroBits (about s .parts)
       zeros-are = ez ∙ ap (λ l. zeroBits (l .parts)) el
@@ -72,22 +72,30 @@ module _ (b : List ℕ) (W : ℕ) (c : controlIn b ≡ taken W) (h : ℕ) (eh : 
       end-is : l .bits - z ≡ zerosFrom s
       end-is = rw (zeros-are, el)
 
+      count : W ≡ wordCount b
+      count = clean-of b W c .count
+
       pub ended : Ended (l .bits) z W (length b)
       ended = record {
         zeros = omega (arith, zeros-are, ap (λ l. l .bits) el, Codes.sizes s .whole);
-        inside = omega (arith, end-is, words-same, Codes.sizes s .inside);
-        few = omega (arith, words-same, Codes.sizes s .few-words);
-        narrow = omega (arith, end-is, words-same, sizes s .zeros);
-        long = rw (clean-of b W c .count) (clean-of b W c .long);
+        inside = omega (arith, end-is, enough, Codes.sizes s .inside);
+        few = few-counted b W c;
+        long = rw count (clean-of b W c .long);
       }
 
-      module _ (x : ℕ) (ex : x ≡ codeField b (l .bits - z) (16 * W - (l .bits - z))) where
-        rest-is : x ≡ codeField b (zerosFrom s) (16 * words s - zerosFrom s)
-        rest-is = ex ∙ rw (end-is, words-same)
+      module _ (x : ℕ) (ex : x ≡ firstOne b (l .bits - z) (16 * W)) where
+        first : x ≡ firstOne b (zerosFrom s) (16 * W)
+        first = ex ∙ ap (λ n. firstOne b n (16 * W)) end-is
 
         -- the first one bit of those behind the parts
-        pub not-zero : ¬ (x ≡ 0) → tagOfBank b ≡ refused 15 (0x20 + (l .bits - z + length (upto 1 (binary (16 * W - (l .bits - z)) x))))
-        not-zero h = one-after b W c s found words-same (rw (← rest-is) h) ∙ rw (end-is, words-same, rest-is)
+        pub not-zero : x < 16 * W → tagOfBank b ≡ refused 15 (0x20 + x)
+        not-zero h = rw first (one-after b W c s found enough (rw first at h))
 
-        pub coded : x ≡ 0 → Coded b s (l .parts)
-        coded e = record { clean = c ∙ ap taken words-same; header = found; zeros = sym rest-is ∙ e; parts = sym (ap (λ l. l .parts) el) }
+        pub coded : 16 * W ≤ x → Coded b s (l .parts)
+        coded h = record {
+          clean = c ∙ ap taken count;
+          header = found;
+          enough = rw (← count) enough;
+          zeros = all-zeros b W c s found enough (rw first at h);
+          parts = sym (ap (λ l. l .parts) el);
+        }

@@ -17,4 +17,5 @@ mod Rooms
 mod PackedRows
 mod PackedStrings
 mod PackedParts
+mod PackedZeros
 mod PackedBanks

@@ -18,7 +18,7 @@ use Rattle.rules.specs.declared.Body.{Body}
 use Rattle.rules.specs.declared.Body.the-variants.{Then, Zeros, E}
 use Rattle.rules.specs.declared.Parts.{Parts}
 use Rattle.rules.specs.declared.Parts.the-variants.{F, Integers}
-use Rattle.rules.specs.Schemes.{digits, integer, string, atMost, numeric, counted, rowDigits, assetBits, lastForm, rowOf, about, zeroBits}
+use Rattle.rules.specs.Schemes.{digits, integer, string, atMost, numeric, counted, rowDigits, assetBits, lastForm, rowOf, about}
 use Rattle.rules.specs.Grammar.{plainNumber, Fit, Fits, laid, layout, Tag}
 use Rattle.rules.specs.Coding.{binary, filled, partBits, coded}
 use Rattle.rules.proofs.Tests.{both}
@@ -34,15 +34,6 @@ use Rattle.scheme.proofs.Widths.{parts-narrow}
 use Rattle.scheme.specs.Records.{recordOf, RecordIs, filterOf, prefixOf, digitsOf, referenceOf, lastNumber, serialOf, lastCharacters, charactersOf, lastCount, countOf, padded}
 use Rattle.scheme.proofs.Shapes.{Partitioned, partitioned, reference-and-last, reference-alone, asset-alone, general}
 use Rattle.bank.specs.Writing.{Company, Reference, Wide, Asset, Number, KeepsLast, lastBits, Keeps, packed}
-
-few-zeros-in : (p : Parts) → Narrow p → zeroBits p ≤ 24
-few-zeros-in (F (Then t l)) h = omega arith
-few-zeros-in (F (Zeros t n)) h = h .0
-few-zeros-in (F E) h = omega arith
-few-zeros-in (Integers a b c) h = omega arith
-
-pub few-zeros : (s : Scheme) → zeroBits (about s .parts) ≤ 24
-few-zeros s = few-zeros-in (about s .parts) (parts-narrow s)
 
 -- A reference, of exactly or at most n digits.
 module _ (t : Table) (b n : ℕ) (x : List ℕ) where

@@ -1,5 +1,5 @@
 -- The widths and places of the fields of each scheme: they can be read, and they lie in its words.
-use Prim.Native.Nat.{ℕ, _+_, _-_, _*_, _≤_, _<_}
+use Prim.Native.Nat.{ℕ, _+_, _*_, _≤_, _<_}
 use mathlib.Core.Path.{_≡_}
 use native.Mathlib.Omega.{arith}
 use Rattle.rules.specs.declared.Scheme.{Scheme}
@@ -9,7 +9,6 @@ use Rattle.rules.proofs.Rows.{AllRows, by-row}
 use Rattle.rules.specs.declared.Body.{Body}
 use Rattle.rules.specs.declared.Parts.{Parts}
 use Rattle.rules.specs.declared.Parts.the-variants.{F, Integers}
-use Rattle.rules.specs.Conditions.{zerosFrom}
 use Rattle.bank.specs.declared.reading.Shape.{Shape}
 use Rattle.bank.specs.Reading.{shapeOf}
 
@@ -22,14 +21,17 @@ pub record Roomy (W : ℕ) (r : Row) (s : Shape) : Type 0 where
   pub most : s .most ≤ 17
   pub inside : 14 + prefixBits r + s .cell .bits + s .serial + 7 * s .groups ≤ 16 * W
 
+-- in more words there is room too
+pub roomier : {W W′ : ℕ} {r : Row} {s : Shape} → W ≤ W′ → Roomy W r s → Roomy W′ r s
+roomier l h = record { narrow = h .narrow; digits = h .digits; serial = h .serial; groups = h .groups; most = h .most; inside = omega (arith, h .inside) }
+
 -- the parts lie in W words, whatever the row
 abbrev pub Inside : ℕ → Parts → Type 0
 Inside W (F body) = AllRows (λ P r. Roomy W r (shapeOf body r)) 0 rows
 Inside W (Integers a b c) = 8 + a + b + c ≤ 16 * W
 
--- what is seen scheme by scheme: the zeros behind the parts are a word at most, and so is each field
+-- what is seen scheme by scheme: each field is a word at most, and lies in the scheme's words
 pub record Sizes (s : Scheme) : Type 0 where
-  pub zeros : 16 * words s - zerosFrom s ≤ 64
   pub inside : Inside (words s) (about s .parts)
 
 pub sizes : (s : Scheme) → Sizes s

@@ -1,51 +1,62 @@
--- Rule 15: the bits behind the parts are zeros exactly if their number is 0.
-use Prim.Native.Nat.{ℕ, zero, suc, _-_, _*_, _≤_}
-use mathlib.Core.Path.{_≡_, refl, sym, ap, _∙_}
-use mathlib.Core.Bool.{Bool, true, false}
-use mathlib.Core.List.{List}
-use native.Mathlib.Nat.{zero-mul}
+-- Rule 15: the bits behind the parts are zeros exactly if the first one of them is the end.
+use Prim.Native.Nat.{ℕ, _+_, _-_, _*_, _≤_, _<_}
+use mathlib.Core.Path.{_≡_, refl, ap, _∙_}
+use mathlib.Core.Bool.{Bool, true, false, _&&_, cond}
+use mathlib.Core.List.{List, [], _∷_}
 use native.Mathlib.Omega.{arith}
-use lib.Dec.{T, eqb, lit<}
-use lib.ListN.{length, drop, replicate, length-replicate, length-drop}
-use lib.Seq.{take-all}
-use borrow.Author.Tests.{ne-eqb}
-use Rattle.numeral.specs.Numeral.{value, Digits}
-use Rattle.numeral.proofs.Values.{value-inj, digits-zeros, digits-drop, numeral-of-value}
-use Rattle.rules.specs.Coding.{binary, wordCount, bankSize}
+use lib.Dec.{T, eqb, eqb→eq}
+use lib.ListN.{length, drop, length-drop}
+use lib.Seq.{take-all, drop-drop}
+use Rattle.numeral.specs.Numeral.{Digits, spread}
+use Rattle.numeral.proofs.Values.{digits-drop}
+use Rattle.rules.specs.Bytes.{upto}
+use Rattle.rules.specs.Coding.{wordCount, bankSize}
 use Rattle.rules.specs.BankNumbers.{allZero, codeIn}
-use Rattle.rules.proofs.Groups.{zeros-of, zeros-is}
-use Rattle.rules.proofs.BankReads.{code-bits, code-length, code-seen}
-use Rattle.fields.specs.BitReaders.{codeField}
+use Rattle.rules.proofs.Tests.{apart, both}
+use Rattle.rules.proofs.CodeReads.{take-inside}
+use Rattle.rules.proofs.BankReads.{code-bits, code-length}
+use Rattle.fields.specs.BitReaders.{codeBits, firstOne}
 
-value-zeros : (n : ℕ) → value 2 (replicate n 0) ≡ 0
-unfolding value
-value-zeros zero = refl
-value-zeros (suc n) = rw (zero-mul, value-zeros n)
+-- a run up to 1 goes to the end of zeros, and of no other bits
+run-of-zeros : (l : List ℕ) → T (allZero l) → length (upto 1 l) ≡ length l
+run-of-zeros [] h = refl
+run-of-zeros (x ∷ xs) h =
+    let (z, r) = both (eqb x 0) (allZero xs) h in
+    rw (eqb→eq x 0 z) (omega (arith, run-of-zeros xs r))
 
-zeros-of-value : (l : List ℕ) → Digits 2 l → value 2 l ≡ 0 → T (allZero l)
-zeros-of-value l d e =
-    rw (value-inj 2 l (replicate (length l) 0) d (digits-zeros 2 (length l) (lit< tt)) (sym (length-replicate (length l) 0)) (e ∙ sym (value-zeros (length l)))) (zeros-of (length l))
-
-all-zero : (l : List ℕ) → Digits 2 l → allZero l ≡ eqb (value 2 l) 0
-all-zero l d = go (allZero l) refl
+zeros-of-run : (l : List ℕ) → Digits 2 l → length (upto 1 l) ≡ length l → T (allZero l)
+zeros-of-run [] d h = tt
+zeros-of-run (x ∷ xs) d h = go (eqb 1 x) refl h (zeros-of-run xs (d .1))
   where
-    go : (t : Bool) → allZero l ≡ t → t ≡ eqb (value 2 l) 0
-    go true e = rw (zeros-is l (rw e tt), value-zeros (length l))
-    go false e = sym (ne-eqb (value 2 l) 0 λ z. rw e at (zeros-of-value l d z))
+    go : (t : Bool) → eqb 1 x ≡ t → length (cond t [] (x ∷ upto 1 xs)) ≡ length (x ∷ xs) → (length (upto 1 xs) ≡ length xs → T (allZero xs)) → T (eqb x 0 && allZero xs)
+    go true e h ih = absurd (omega arith)
+    go false e h ih = let z : x ≡ 0 = omega (arith, d .0, apart 1 x (rw e tt)) in rw z (ih (omega arith))
 
--- the bits of the code from n on, their number, and whether they are zeros
+run-within : (l : List ℕ) → length (upto 1 l) ≤ length l
+run-within [] = omega arith
+run-within (x ∷ xs) = go (eqb 1 x) (run-within xs)
+  where
+    go : (t : Bool) → length (upto 1 xs) ≤ length xs → length (cond t [] (x ∷ upto 1 xs)) ≤ length (x ∷ xs)
+    go true h = omega arith
+    go false h = omega arith
+
+-- the bits of the code from n on
 module _ (b : List ℕ) (long : bankSize (wordCount b) ≤ length b) (n : ℕ) (inside : n ≤ 16 * wordCount b) where
-  bits : Digits 2 (drop n (codeIn b))
-  bits = digits-drop 2 n (codeIn b) (code-bits b long)
-
   size : length (drop n (codeIn b)) ≡ 16 * wordCount b - n
   size = length-drop n (codeIn b) ∙ ap (_- n) (code-length b long)
 
-  number : codeField b n (16 * wordCount b - n) ≡ value 2 (drop n (codeIn b))
-  number = code-seen b long n (16 * wordCount b - n) (omega arith) ∙ ap (value 2) (take-all (16 * wordCount b - n) (drop n (codeIn b)) (omega (arith, size)))
+  bits-are : codeBits b n (16 * wordCount b) ≡ drop n (codeIn b)
+  bits-are =
+      let k = 16 * wordCount b - n in
+      let S = spread 2 8 b in
+      let q : 0x20 + n - 0x10 ≡ 16 + n = omega arith in
+      rw (q, ← drop-drop n 16 S, ← take-inside n k (16 * wordCount b) (drop 16 S) (omega arith)) (take-all k (drop n (codeIn b)) (omega (arith, size)))
 
-  pub zeros-seen : allZero (drop n (codeIn b)) ≡ eqb (codeField b n (16 * wordCount b - n)) 0
-  zeros-seen = all-zero (drop n (codeIn b)) bits ∙ rw number
+  pub first-is : firstOne b n (16 * wordCount b) ≡ n + length (upto 1 (drop n (codeIn b)))
+  first-is = ap (λ l. n + length (upto 1 l)) bits-are
 
-  pub bits-seen : drop n (codeIn b) ≡ binary (16 * wordCount b - n) (codeField b n (16 * wordCount b - n))
-  bits-seen = rw number (sym (numeral-of-value 2 (16 * wordCount b - n) (drop n (codeIn b)) bits size))
+  pub some-one : firstOne b n (16 * wordCount b) < 16 * wordCount b → ¬ T (allZero (drop n (codeIn b)))
+  some-one h z = omega (arith, first-is, run-of-zeros (drop n (codeIn b)) z, size)
+
+  pub no-one : 16 * wordCount b ≤ firstOne b n (16 * wordCount b) → T (allZero (drop n (codeIn b)))
+  no-one h = zeros-of-run (drop n (codeIn b)) (digits-drop 2 n (codeIn b) (code-bits b long)) (omega (arith, first-is, size, run-within (drop n (codeIn b))))

@@ -3,6 +3,7 @@ use Prim.Native.Nat.{ℕ, _+_, _-_, _*_, _/_, _^_, _<_, _≤_}
 use mathlib.Core.Path.{_≡_}
 use mathlib.Core.List.{List}
 use mathlib.Core.Option.{some}
+use lib.Dec.{T}
 use lib.ListN.{take, drop}
 use Rattle.numeral.specs.Numeral.{spread, gather}
 use Rattle.rules.specs.declared.Scheme.{Scheme}
@@ -13,8 +14,8 @@ use Rattle.rules.specs.declared.Parts.{Parts}
 use Rattle.rules.specs.declared.Parts.the-variants.{F}
 use Rattle.rules.specs.Answers.{taken}
 use Rattle.rules.specs.Schemes.{Row, schemes, about, words, prefixBits, prefixDigits, assetBits}
-use Rattle.rules.specs.Coding.{at}
-use Rattle.rules.specs.BankNumbers.{headed, controlIn}
+use Rattle.rules.specs.Coding.{at, wordCount}
+use Rattle.rules.specs.BankNumbers.{allZero, headed, codeIn, controlIn}
 use Rattle.rules.specs.Conditions.{partitionIn, rowIn, zerosFrom}
 use Rattle.scheme.specs.declared.rows.Cell.{Cell}
 use Rattle.scheme.specs.Rows.{referenceOf}
@@ -24,9 +25,10 @@ use Rattle.bank.specs.declared.reading.Shape.{Shape}
 
 -- the rules 9 to 15 do not apply: the words are a code of the scheme s, whose parts are p, and zeros
 pub record Coded (b : List ℕ) (s : Scheme) (p : Parts) : Type 0 where
-  pub clean : controlIn b ≡ taken (words s)
+  pub clean : controlIn b ≡ taken (wordCount b)
   pub header : headed (at b 0x20 8) schemes ≡ some s
-  pub zeros : codeField b (zerosFrom s) (16 * words s - zerosFrom s) ≡ 0
+  pub enough : words s ≤ wordCount b
+  pub zeros : T (allZero (drop (zerosFrom s) (codeIn b)))
   pub parts : about s .parts ≡ p
 
 -- the code bits behind the header and behind the company prefix

@@ -1,5 +1,5 @@
 -- The bits of a record's fields, the limits that the fields keep, and the room that a stream has for them.
-use Prim.Native.Nat.{ℕ, _+_, _/_, _^_, _≤_, _<_}
+use Prim.Native.Nat.{ℕ, _+_, _-_, _*_, _/_, _^_, _≤_, _<_}
 use mathlib.Core.List.{List, _++_}
 use lib.ListN.{take}
 use Rattle.numeral.specs.Numeral.{Digits, spread}
@@ -13,10 +13,10 @@ use Rattle.rules.specs.declared.Parts.{Parts}
 use Rattle.rules.specs.declared.Parts.the-variants.{F, Integers}
 use Rattle.rules.specs.Schemes.{cell, assetBits, partition, prefixBits, rowOf}
 use Rattle.rules.specs.Coding.{binary, controlBits}
+use Rattle.rules.specs.Calls.{bankRoom}
 use Rattle.bits.specs.declared.Stream.{Stream}
 use Rattle.bits.specs.Streams.{Sound}
 use Rattle.tens.specs.Numerics.{oneBefore}
-use Rattle.scheme.specs.declared.outlines.Outline.{Outline}
 use Rattle.scheme.specs.declared.record.Record.{Record}
 
 -- so many bytes have room for n more bits of the stream s
@@ -25,8 +25,8 @@ pub record Room (s : Stream) (n bytes : ℕ) : Type 0 where
   pub room : s .at + (s .count + n) / 8 ≤ bytes
 
 -- the control word, with the word count and the control bits, and the header
-abbrev pub startBits : Outline → ControlFields → List ℕ
-startBits o c = binary 5 (o .words) ++ (controlBits c ++ binary 8 (o .header))
+abbrev pub startBits : ℕ → ℕ → ControlFields → List ℕ
+startBits words header c = binary 5 words ++ (controlBits c ++ binary 8 header)
 
 -- the filter is one digit 0 to 7, and the company prefix has 6 to 12 digits
 pub record Company (r : Record) : Type 0 where
@@ -97,3 +97,13 @@ Keeps (Integers a b c) r = Number a (r .prefix) × Number b (r .reference) × Nu
 abbrev pub packed : Parts → Record → List ℕ
 packed (F body) r = companyBits r ++ behindBits body r
 packed (Integers a b c) r = binary a (r .prefix) ++ (binary b (r .reference) ++ binary c (r .serial))
+
+-- the zeros from where a stream stands to byte n, and that they lie in so many bytes
+abbrev pub zerosTo : ℕ → Stream → ℕ
+zerosTo n s = 8 * (n - s .at) - s .count
+
+pub record ZerosFit (s : Stream) (n bytes : ℕ) : Type 0 where
+  pub sound : Sound s
+  pub before : 8 * s .at + s .count ≤ 8 * n
+  pub inside : n ≤ bytes
+  pub few : n ≤ bankRoom

@@ -1,8 +1,8 @@
 // A bank to the record of its tag: the rules 9 to 19, in their order (document 01, "Numbers given, and when"). Each function goes on where
 // the one before it stopped, and returns the whole bank's result.
 use super::eights;
+use fields::bitreader::first_one;
 use fields::bitreader::take;
-use fields::bitreader::zeros_before;
 use fields::control;
 use fields::control::WORD_COUNT;
 use rules::Body;
@@ -254,15 +254,14 @@ fn coded(bank: &[u8], words: usize) -> Reading
         return refused_at(refusal::HEADER, CodeBit(0));
     };
     let outline = about(s);
-    if words != outline.words {
+    if words < outline.words {
         return refused(refusal::WORD_COUNT, WORD_COUNT.0);
     }
+    // all bits behind the parts must be 0: the 24, the fill, and the words that the scheme doesn't need
     let p = outline.parts;
-    let end = outline.bits - zeros(p);
-    let width = 16 * words - end;
-    let fill = take(bank, CodeBit(end), width).value;
-    if fill != 0 {
-        let one = CodeBit(end).behind(zeros_before(fill, width));
+    let end = 16 * words;
+    let one = first_one(bank, CodeBit(outline.bits - zeros(p)), end);
+    if one.0 < end {
         return refused_at(refusal::FILL_BITS, one);
     }
     match p {

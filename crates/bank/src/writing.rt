@@ -1,4 +1,4 @@
-// The bank of a tag, written from its record (document 01, "The bank"; document 02, C-13): one stream of bits, in order. Each `put_`
+// The bank of a tag, written from its record (document 01, "The bank"; document 02, C-13 and C-15): one stream of bits, in order. Each `put_`
 // function takes the stream, adds its bits, and returns the stream behind them.
 use super::eights;
 use bits::Stream;
@@ -16,14 +16,14 @@ use scheme::rows;
 use tens::with_one;
 ghost use mathlib.Core.List.{_++_};
 ghost use Prim.Native.Nat.{_≤_, _<_};
-ghost use lib.ListN.{length, take};
+ghost use lib.ListN.{length, take, replicate};
 ghost use Rattle.numeral.specs.Numeral.{Digits, spread};
 ghost use Rattle.bits.specs.Streams.{waiting, Streamed};
 ghost use Rattle.rules.specs.Calls.{bankRoom};
 ghost use Rattle.rules.specs.ControlFields.{ControlFits};
-ghost use Rattle.rules.specs.Coding.{binary, bankOf};
+ghost use Rattle.rules.specs.Coding.{binary, bankOf, EnoughWords};
 ghost use Rattle.scheme.specs.Records.{HasTag, Writes};
-ghost use Rattle.bank.specs.Writing.{Room, startBits, Company, companyBits, Reference, referenceBits, Wide, Asset, assetNumber, KeepsLast, lastBits, Keeps, packed};
+ghost use Rattle.bank.specs.Writing.{Room, startBits, Company, companyBits, Reference, referenceBits, Wide, Asset, assetNumber, KeepsLast, lastBits, Keeps, packed, ZerosFit, zerosTo};
 
 // The filter, the partition value and the company prefix: 3 bits, 3, and 40 at most.
 fn put_company(out: &mut [u8], s: Stream, tag: Record) -> Stream
@@ -120,50 +120,63 @@ fn put_body(out: &mut [u8], s: Stream, body: Body, tag: Record) -> Stream
 }
 
 // The control word, with the word count in its upper five bits, umi in the next and att in the lower eight; and the header.
-fn put_start(out: &mut [u8], outline: Outline, control: ControlFields) -> Stream
-    requires { ⌜ (bankRoom ≤ length (now out)) × (outline .words < 32) × ControlFits control ⌝ }
-    ensures { λ r. ⌜ Streamed (now (out .entry)) 0 (startBits outline control) (now (out .exit)) r ⌝ }
+fn put_start(out: &mut [u8], words: usize, header: u8, control: ControlFields) -> Stream
+    requires { ⌜ (bankRoom ≤ length (now out)) × (words < 32) × ControlFits control ⌝ }
+    ensures { λ r. ⌜ Streamed (now (out .entry)) 0 (startBits words header control) (now (out .exit)) r ⌝ }
 {
     let start = Stream {
         at: 0,
         bits: 0,
         count: 0,
     };
-    let word = outline.words * 2048 + control.umi as usize * 1024 + control.att as usize;
+    let word = words * 2048 + control.umi as usize * 1024 + control.att as usize;
     let behind = bits::push(out, start, 16, word as u64);
-    bits::push(out, behind, 8, outline.header as u64)
+    bits::push(out, behind, 8, header as u64)
 }
 
 // The control word, the header and all parts. What parts there are is asked first, so that a scheme's numbers are known from there on.
-fn put_parts(out: &mut [u8], outline: Outline, tag: Record) -> Stream
-    requires { ⌜ (bankRoom ≤ length (now out)) × (outline .words < 32) × ControlFits (tag .control) × Keeps (outline .parts) tag ⌝ }
-    ensures { λ r. ⌜ Streamed (now (out .entry)) 0 (startBits outline (tag .control) ++ packed (outline .parts) tag) (now (out .exit)) r ⌝ }
+fn put_parts(out: &mut [u8], words: usize, outline: Outline, tag: Record) -> Stream
+    requires { ⌜ (bankRoom ≤ length (now out)) × (words < 32) × ControlFits (tag .control) × Keeps (outline .parts) tag ⌝ }
+    ensures { λ r. ⌜ Streamed (now (out .entry)) 0 (startBits words (outline .header) (tag .control) ++ packed (outline .parts) tag) (now (out .exit)) r ⌝ }
 {
     let control = tag.control;
     let parts = outline.parts;
     match parts {
         Parts::F(body) => {
-            let start = put_start(out, outline, control);
+            let start = put_start(out, words, outline.header, control);
             put_body(out, start, body, tag)
         }
         Parts::Integers(a, b, c) => {
-            let start = put_start(out, outline, control);
+            let start = put_start(out, words, outline.header, control);
             put_integers(out, start, tag, a, b, c)
         }
     }
 }
 
-// Writes the bank of the tag from the output's start on, and returns its length.
-pub fn write(tag: Record, out: &mut [u8]) -> usize
+// Zeros up to byte n: the fill, table B's 24, and the words that the scheme doesn't need. 56 bits go at once, whole bytes but for the first.
+fn put_zeros(out: &mut [u8], s: Stream, n: usize) -> Stream
+    requires { ⌜ ZerosFit s n (length (now out)) ⌝ }
+    ensures { λ r. ⌜ Streamed (now (out .entry)) (s .at) (waiting s ++ replicate (zerosTo n s) 0) (now (out .exit)) r ⌝ }
+{
+    let mut end = s;
+    while end.at < n {
+        let left = 8 * (n - end.at) - end.count;
+        end = bits::push(out, end, bits::least(left, 56), 0);
+    }
+    end
+}
+
+// Writes the bank of the tag in so many words from the output's start on, and returns its length.
+pub fn write(tag: Record, words: usize, out: &mut [u8]) -> usize
     requires { ⌜ bankRoom ≤ length (now out) ⌝ }
     requires { ⌜ HasTag tag ⌝ }
-    ensures { λ n. ⌜ Writes bankOf tag (now (out .entry)) n (now (out .exit)) ⌝ }
+    requires { ⌜ EnoughWords words (tag .scheme) ⌝ }
+    ensures { λ n. ⌜ Writes (bankOf words) tag (now (out .entry)) n (now (out .exit)) ⌝ }
 {
     let s = tag.scheme;
     let outline = about(s);
-    let end = put_parts(out, outline, tag);
-    // zeros to the end of the last word: the fill, and table B's 24
-    let n = size(outline.words);
-    bits::push(out, end, 8 * (n - end.at) - end.count, 0);
+    let end = put_parts(out, words, outline, tag);
+    let n = size(words);
+    put_zeros(out, end, n);
     n
 }

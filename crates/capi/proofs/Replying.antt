@@ -1,5 +1,5 @@
 -- An answer in numbers says what the codec's says: number by number, and the line on the screen by the text that it is a part of.
-use Prim.Native.Nat.{ℕ, _^_, _<_}
+use Prim.Native.Nat.{ℕ, _^_, _≤_, _<_}
 use mathlib.Core.Path.{_≡_, refl, sym, ap, _∙_}
 use mathlib.Core.Bool.{Bool, true, false, _&&_, cond}
 use mathlib.Core.List.{List, []}
@@ -8,20 +8,22 @@ use lib.Dec.{leb}
 use lib.ListN.{length, take}
 use lib.Seq.{take-length}
 use borrow.Author.Tests.{ne-eqb, le-leb, lt-leb}
+use Rattle.rules.specs.Coding.{mostWords}
 use Rattle.rules.specs.Calls.{Call}
 use Rattle.rules.specs.Screen.{screen}
-use Rattle.codec.specs.Answers.{answered, numberOf, placeOf, lengthOf}
+use Rattle.codec.specs.Answers.{answered, numberOf, placeOf, wordsOf, lengthOf}
 use Rattle.codec.specs.declared.Answer.{Answer}
 use Rattle.capi.specs.declared.Reply.{Reply}
 use Rattle.capi.specs.declared.Shown.{Shown}
-use Rattle.capi.specs.Replies.{replied, Shows}
+use Rattle.capi.specs.Replies.{Narrow, replied, Shows}
 
-pub same : (a : Answer) (out : List ℕ) (c : Call) → answered a out ≡ c → (r : Reply) → r .number ≡ numberOf a → r .place ≡ placeOf a → r .length ≡ lengthOf a → replied r out ≡ c
-same a out c e r n p l = rw (n, p, l, ← e)
+pub same : (a : Answer) (out : List ℕ) (c : Call) → answered a out ≡ c → (r : Reply) → r .number ≡ numberOf a → r .place ≡ placeOf a → r .words ≡ wordsOf a → r .length ≡ lengthOf a
+    → replied r out ≡ c
+same a out c e r n p w l = rw (n, p, w, l, ← e)
 
--- the place of a call's answer is the call's
-pub small : (a : Answer) (out : List ℕ) (c : Call) → answered a out ≡ c → c .place < 2 ^ 16 → placeOf a < 2 ^ 16
-small a out c e l = rw (← e) at l
+-- the place and the W of a call's answer are the call's
+pub small : (a : Answer) (out : List ℕ) (c : Call) → answered a out ≡ c → c .place < 2 ^ 16 → c .words ≤ mostWords → Narrow (placeOf a) (wordsOf a)
+small a out c e l m = (rw (← e) at l, omega (arith, rw (← e) at m))
 
 -- a number past document 01's shows nothing
 pub past : (tag raw : List ℕ) (n : ℕ) → 19 < n → Shows tag raw n (record { text = 1; length = 0 })
@@ -58,7 +60,7 @@ module _ (tag raw : List ℕ) (n : ℕ) where
 pub one-reply : (r s : Reply) (o p : List ℕ) (c : Call) → replied r o ≡ c → replied s p ≡ c → (r ≡ s) × (o ≡ p)
 one-reply r s o p c e f =
     let g = e ∙ sym f in
-    (ap (λ x. record { number = x .number; place = x .place; length = x .written }) g, ap (λ x. x .output) g)
+    (ap (λ x. record { number = x .number; place = x .place; words = x .words; length = x .written }) g, ap (λ x. x .output) g)
 
 pub one-screen : (tag raw : List ℕ) (n : ℕ) (r s : Shown) → Shows tag raw n r → Shows tag raw n s → r ≡ s
 one-screen tag raw n r s x y = let t = x .text ∙ sym (y .text) in let l = x .whole ∙ sym (y .whole) in rw (t, l)

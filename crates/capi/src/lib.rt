@@ -1,18 +1,18 @@
-// The four public calls for other languages (include/tagcodec.h). A lent slice is a pointer and a length, an answer three numbers. No call
+// The four public calls for other languages (include/tagcodec.h). A lent slice is a pointer and a length, an answer four numbers. No call
 // has a condition; what C itself owes of a pointer stands in the header.
 ghost use mathlib.Core.Path.{_≡_};
-ghost use Prim.Native.Nat.{_^_, _<_};
 ghost use Rattle.rules.specs.Calls.{textToBank, bankToText, rawLine};
-ghost use Rattle.codec.specs.Answers.{numberOf, placeOf, lengthOf};
-ghost use Rattle.capi.specs.Replies.{replied, Shows};
+ghost use Rattle.codec.specs.Answers.{numberOf, placeOf, wordsOf, lengthOf};
+ghost use Rattle.capi.specs.Replies.{Narrow, replied, Shows};
 use codec::Answer;
 
-// What a call gives: document 01's number, its place, and the length written. Number and place share a word, so that a reply is returned in
-// two registers.
+// What a call gives: document 01's number, its place, the W of the bank, and the length written. Number, place and W share a word, so that a
+// reply is returned in two registers.
 #[repr(C)]
 pub struct Reply {
     pub number: u32,
-    pub place: u32,
+    pub place: u16,
+    pub words: u16,
     pub length: usize,
 }
 
@@ -29,31 +29,34 @@ pub struct Shown {
 }
 
 fn in_numbers(answer: Answer) -> Reply
-    requires { ⌜ placeOf answer < 2 ^ 16 ⌝ }
+    requires { ⌜ Narrow (placeOf answer) (wordsOf answer) ⌝ }
     ensures number { λ r. ⌜ r .number ≡ numberOf answer ⌝ }
     ensures place { λ r. ⌜ r .place ≡ placeOf answer ⌝ }
+    ensures words { λ r. ⌜ r .words ≡ wordsOf answer ⌝ }
     ensures length { λ r. ⌜ r .length ≡ lengthOf answer ⌝ }
 {
     match answer {
-        Answer::Written(length) => Reply {
+        Answer::Written(length, words) => Reply {
             number: 0,
             place: 0,
+            words: words as u16,
             length: length,
         },
         Answer::Refused(number, place) => Reply {
             number: number as u32,
-            place: place as u32,
+            place: place as u16,
+            words: 0,
             length: 0,
         },
     }
 }
 
-// Text to bank: numbers 1 to 8, and 20.
+// Text to bank in so many words, 0 for as few as the scheme needs: numbers 1, 21, 2 to 8 with 20, and 22.
 #[no_mangle]
-pub extern "C" fn tagcodec_text_to_bank(text: &[u8], out: &mut [u8]) -> Reply
-    ensures { λ r. ⌜ replied r (now (out .exit)) ≡ textToBank (now (text .entry)) (now (out .entry)) ⌝ }
+pub extern "C" fn tagcodec_text_to_bank(text: &[u8], words: u32, out: &mut [u8]) -> Reply
+    ensures { λ r. ⌜ replied r (now (out .exit)) ≡ textToBank words (now (text .entry)) (now (out .entry)) ⌝ }
 {
-    in_numbers(codec::text_to_bank(text, out))
+    in_numbers(codec::text_to_bank(text, words as usize, out))
 }
 
 // Bank to text: numbers 1 and 9 to 19.

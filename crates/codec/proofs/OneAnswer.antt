@@ -1,4 +1,4 @@
--- No second answer keeps a call's contract. Number, place and length tell the answers apart, because what is accepted is never empty.
+-- No second answer keeps a call's contract. Number, place, W and length tell the answers apart, because what is accepted is never empty.
 use Prim.Native.Nat.{ℕ, _<_}
 use mathlib.Core.Path.{_≡_, refl, sym, ap, _∙_}
 use mathlib.Core.List.{List}
@@ -19,9 +19,9 @@ pub text-full : (τ : Tag) → 0 < length (textOf τ)
 unfolding textOf start
 text-full τ = omega arith
 
-pub bank-full : (τ : Tag) → 0 < length (bankOf τ)
+pub bank-full : (W : ℕ) (τ : Tag) → 0 < length (bankOf W τ)
 unfolding bankOf
-bank-full τ = rw length-gather (omega arith)
+bank-full W τ = rw length-gather (omega arith)
 
 raw-full : (b : List ℕ) → 0 < length (rawText b)
 unfolding rawText
@@ -31,10 +31,10 @@ raw-full b = omega arith
 abbrev pub Full : Call → Type 0
 Full c = c .number ≡ 0 → 0 < c .written
 
-pub written-full : (t out : List ℕ) → Full (textToBank t out)
-written-full t out e =
-    let (w, r, n, _) = rules.one-answer-of-text-to-bank t out (textToBank t out) .1 refl .accepted e in
-    rw (n, r .2) (bank-full (r .0))
+pub written-full : (W : ℕ) (t out : List ℕ) → Full (textToBank W t out)
+written-full W t out e =
+    let (w, r, n, _) = rules.one-answer-of-text-to-bank W t out (textToBank W t out) .1 refl .accepted e in
+    rw (n, r .3) (bank-full (textToBank W t out .words) (r .0))
 
 pub shown-full : (b out : List ℕ) → Digits 256 b → Full (bankToText b out)
 shown-full b out d e =
@@ -44,21 +44,21 @@ shown-full b out d e =
 pub raw-line-full : (b out : List ℕ) → Full (rawLine b out)
 raw-line-full b out e =
     let (w, r, n, _) = rules.one-answer-of-raw-line b out (rawLine b out) .1 refl .accepted e in
-    rw (n, r) (raw-full b)
+    rw (n, r .1) (raw-full b)
 
 module _ (c : Call) (full : Full c) where
-  told-apart : (n m i : ℕ) (o p : List ℕ) → answered (Written n) o ≡ c → ¬ (answered (Refused m i) p ≡ c)
-  told-apart n m i o p e f = omega (arith, full (sym (ap (λ x. x .number) e)), ap (λ x. x .written) f)
+  told-apart : (n W m i : ℕ) (o p : List ℕ) → answered (Written n W) o ≡ c → ¬ (answered (Refused m i) p ≡ c)
+  told-apart n W m i o p e f = omega (arith, full (sym (ap (λ x. x .number) e)), ap (λ x. x .written) f)
 
   pub one-answer : (r s : Answer) (o p : List ℕ) → answered r o ≡ c → answered s p ≡ c → (r ≡ s) × (o ≡ p)
-  one-answer (Written n) (Written m) o p e f = (ap Written (ap (λ x. x .written) (e ∙ sym f)), ap (λ x. x .output) (e ∙ sym f))
+  one-answer (Written n W) (Written m W′) o p e f = (ap (λ x. Written (x .written) (x .words)) (e ∙ sym f), ap (λ x. x .output) (e ∙ sym f))
   one-answer (Refused n i) (Refused m j) o p e f = (ap (λ x. Refused (x .number) (x .place)) (e ∙ sym f), ap (λ x. x .output) (e ∙ sym f))
-  one-answer (Written n) (Refused m i) o p e f = absurd (told-apart n m i o p e f)
-  one-answer (Refused n i) (Written m) o p e f = absurd (told-apart m n i p o f e)
+  one-answer (Written n W) (Refused m i) o p e f = absurd (told-apart n W m i o p e f)
+  one-answer (Refused n i) (Written m W) o p e f = absurd (told-apart m W n i p o f e)
 
 module _ (r s : Answer) (o p : List ℕ) where
-  pub one-answer-of-text-to-bank : (t out : List ℕ) → answered r o ≡ textToBank t out → answered s p ≡ textToBank t out → (r ≡ s) × (o ≡ p)
-  one-answer-of-text-to-bank t out = one-answer (textToBank t out) (written-full t out) r s o p
+  pub one-answer-of-text-to-bank : (W : ℕ) (t out : List ℕ) → answered r o ≡ textToBank W t out → answered s p ≡ textToBank W t out → (r ≡ s) × (o ≡ p)
+  one-answer-of-text-to-bank W t out = one-answer (textToBank W t out) (written-full W t out) r s o p
 
   pub one-answer-of-bank-to-text : (b out : List ℕ) → Digits 256 b → answered r o ≡ bankToText b out → answered s p ≡ bankToText b out → (r ≡ s) × (o ≡ p)
   one-answer-of-bank-to-text b out d = one-answer (bankToText b out) (shown-full b out d) r s o p

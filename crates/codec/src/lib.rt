@@ -2,30 +2,55 @@
 // byte of the lent output. All is read before anything is written.
 pub mod ties;
 
+use fields::control::word_count;
+use rules::Scheme;
+use scheme::outlines::about;
 use scheme::refusal;
 ghost use mathlib.Core.Path.{_≡_};
-ghost use Rattle.rules.specs.Calls.{textToBank, bankToText, rawLine};
+ghost use Rattle.rules.specs.Calls.{wordsToWrite, textToBank, bankToText, rawLine};
 ghost use Rattle.rules.specs.Screen.{screen as screenOf};
-ghost use Rattle.codec.specs.Answers.{answered, chosen};
+ghost use Rattle.codec.specs.Answers.{answered, chosen, wordsOr0};
 
 // The bytes that an output must have: for a bank, and for a text or a raw line.
 pub const BANK_ROOM: usize = 64;
 
 pub const TEXT_ROOM: usize = 160;
 
-// What a call gives: accepted with the length written, or refused with a number ("Numbers given, and when") and its place (document 02, C-12):
-// an offset in the text, an address in the bank, or for 9 the number of bytes lent.
+// The most words that a bank can have: five bits count them.
+pub const MOST_WORDS: usize = 31;
+
+// What a call gives: accepted with the length written and the W of the bank (document 02, C-15), the one that is written or the one that was
+// read; or refused with a number ("Numbers given, and when") and its place (C-12): an offset in the text, an address in the bank, or for 9 the
+// number of bytes lent.
 pub enum Answer {
-    Written(usize),
+    Written(usize, usize),
     Refused(u8, usize),
 }
 
-// Text to bank: numbers 1 to 8, and 20. The bank is written from the output's start on.
-pub fn text_to_bank(text: &[u8], out: &mut [u8]) -> Answer
-    ensures { λ r. ⌜ answered r (now (out .exit)) ≡ textToBank (now (text .entry)) (now (out .entry)) ⌝ }
+// The W to write where so many words are asked for: the scheme's count for 0. It is 0 where they are too few.
+fn words_for(asked: usize, s: Scheme) -> usize
+    ensures { λ r. ⌜ r ≡ wordsOr0 (wordsToWrite asked s) ⌝ }
+{
+    let least = about(s).words;
+    if asked == 0 {
+        return least;
+    }
+    if asked < least {
+        return 0;
+    }
+    asked
+}
+
+// Text to bank in so many words, 0 for as few as the scheme needs: numbers 1, 21, 2 to 8 with 20, and 22. The bank is written from the output's
+// start on.
+pub fn text_to_bank(text: &[u8], words: usize, out: &mut [u8]) -> Answer
+    ensures { λ r. ⌜ answered r (now (out .exit)) ≡ textToBank words (now (text .entry)) (now (out .entry)) ⌝ }
 {
     if out.len() < BANK_ROOM {
         return Answer::Refused(refusal::OUTPUT_TOO_SHORT, 0);
+    }
+    if MOST_WORDS < words {
+        return Answer::Refused(refusal::TOO_MANY_WORDS, 0);
     }
     let reading = text::reading::read(text);
     let number = reading.number;
@@ -33,7 +58,12 @@ pub fn text_to_bank(text: &[u8], out: &mut [u8]) -> Answer
         return Answer::Refused(number, reading.place);
     }
     let tag = reading.tag;
-    Answer::Written(bank::writing::write(tag, out))
+    let s = tag.scheme;
+    let written = words_for(words, s);
+    if written == 0 {
+        return Answer::Refused(refusal::TOO_FEW_WORDS, 0);
+    }
+    Answer::Written(bank::writing::write(tag, written, out), written)
 }
 
 // Bank to text: numbers 1 and 9 to 19. The text is written from the output's start on; what stands behind word W is never looked at.
@@ -49,7 +79,7 @@ pub fn bank_to_text(bank: &[u8], out: &mut [u8]) -> Answer
         return Answer::Refused(number, reading.place);
     }
     let tag = reading.tag;
-    Answer::Written(text::writing::write(tag, out))
+    Answer::Written(text::writing::write(tag, out), word_count(bank))
 }
 
 // The raw line of a bank: numbers 1, 9 and 10.
@@ -63,7 +93,7 @@ pub fn raw_line(bank: &[u8], out: &mut [u8]) -> Answer
     if control.number != 0 {
         return Answer::Refused(control.number, control.place);
     }
-    Answer::Written(bank::raw::write(bank, control.words, out))
+    Answer::Written(bank::raw::write(bank, control.words, out), control.words)
 }
 
 // The line on the screen ("Screen"): all of the tag text for 0, all of the raw text for 11 to 19, the raw text's empty start for every

@@ -52,3 +52,21 @@ module _ (v width : ℕ) (small : v < 2 ^ width) (narrow : width ≤ 64) where
 
   pub zeros-within : length (upto 1 (binary width v)) ≤ width
   zeros-within = omega (arith, zeros-before)
+
+  -- a number that is not 0 has a one bit
+  pub zeros-some : ¬ (v ≡ 0) → length (upto 1 (binary width v)) < width
+  zeros-some some =
+      let p : 2 ^ width ≤ 2 ^ 64 = pow-le-pow-right (lit< tt) narrow in
+      let (m, e, a, b) = leading-length 64 v (omega arith) in
+      let one : 0 < m = positive m a in
+      omega (arith, zeros-before, e)
+    where
+      positive : (m : ℕ) → v < 2 ^ m → 0 < m
+      positive zero a = absurd (some (omega arith))
+      positive (suc m) a = omega arith
+
+-- and 0 has none
+pub zeros-all : (width : ℕ) → length (upto 1 (binary width 0)) ≡ width
+zeros-all width =
+    let q = value-numeral-lt 2 width 0 (one-le-pow width 2 (lit< tt)) in
+    omega (arith, zeros-of (binary width 0) (digits-numeral 2 width 0 (lit< tt)) 0 (rw q (omega arith)) (rw q (omega arith)), length-numeral 2 width 0)

@@ -1,7 +1,10 @@
 -- What the bit reader takes: the number in some bits of the code, and the code bit behind them.
-use Prim.Native.Nat.{ℕ, _+_, _*_, _≤_}
+use Prim.Native.Nat.{ℕ, _+_, _-_, _*_, _≤_}
 use mathlib.Core.List.{List}
+use lib.ListN.{length, take, drop}
 use denote.Ref.{RefT, now}
+use Rattle.numeral.specs.Numeral.{spread}
+use Rattle.rules.specs.Bytes.{upto}
 use Rattle.rules.specs.Coding.{at}
 use Rattle.scheme.specs.declared.counts.CodeBit.{CodeBit}
 use Rattle.scheme.specs.Counts.{behindOf}
@@ -27,6 +30,19 @@ codeField bank c width = at bank (0x20 + c) width
 
 abbrev pub stepOf : List ℕ → CodeBit → ℕ → Step
 stepOf bank c width = record { value = codeField bank (c .0) width; at = behindOf c width }
+
+-- the bits of the code from c on and before the end lie in so many bytes of a bank
+pub record AllLie (c end bytes : ℕ) : Type 0 where
+  pub order : c ≤ end
+  pub small : end ≤ 0x400
+  pub inside : 0x20 + end ≤ 0x10 + 8 * bytes
+
+abbrev pub codeBits : List ℕ → ℕ → ℕ → List ℕ
+codeBits bank c end = take (end - c) (drop (0x20 + c - 0x10) (spread 2 8 bank))
+
+-- the first of them that is 1; where none is, the end
+abbrev pub firstOne : List ℕ → ℕ → ℕ → ℕ
+firstOne bank c end = c + length (upto 1 (codeBits bank c end))
 
 -- a reader of a bank that stands at a code bit
 abbrev pub readerOf : RefT (List ℕ) → CodeBit → BitReader

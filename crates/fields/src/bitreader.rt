@@ -7,7 +7,7 @@ ghost use Prim.Native.Nat.{_^_, _≤_, _<_};
 ghost use lib.ListN.{length};
 ghost use Rattle.rules.specs.Bytes.{upto};
 ghost use Rattle.rules.specs.Coding.{binary, at};
-ghost use Rattle.fields.specs.BitReaders.{Lies, LiesInCode, stepOf, readerOf, takenOf};
+ghost use Rattle.fields.specs.BitReaders.{Lies, LiesInCode, AllLie, stepOf, firstOne, readerOf, takenOf};
 
 // The number in the `width` bits from a bank address on.
 pub fn field_at(bank: &[u8], a: BankAddress, width: usize) -> u64
@@ -36,11 +36,28 @@ pub fn step_at(bank: &[u8], c: CodeBit, width: usize) -> Step
 }
 
 // How many of the `width` bits of a number stand before its first one bit; for 0, all of them.
-pub fn zeros_before(v: u64, width: usize) -> usize
+fn zeros_before(v: u64, width: usize) -> usize
     requires { ⌜ (v < 2 ^ width) × (width ≤ 64) ⌝ }
     ensures { λ r. ⌜ r ≡ length (upto 1 (binary width v)) ⌝ }
 {
     u64::leading_zeros(v) as usize + width - 64
+}
+
+// The first of the code bits from `from` on, and before `end`, that is 1; where none is, `end`. As many are read at once as a word holds.
+pub fn first_one(bank: &[u8], from: CodeBit, end: usize) -> CodeBit
+    requires { ⌜ AllLie (from .0) end (length (now bank)) ⌝ }
+    ensures { λ r. ⌜ r .0 ≡ firstOne (now (bank .entry)) (from .0) end ⌝ }
+{
+    let mut at = from;
+    while at.0 < end {
+        let width = bits::least(end - at.0, 64);
+        let next = step_at(bank, at, width);
+        if next.value != 0 {
+            return at.behind(zeros_before(next.value, width));
+        }
+        at = next.at;
+    }
+    at
 }
 
 // The bit reader: the bank's slice, and the code bit where it stands.

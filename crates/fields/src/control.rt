@@ -8,7 +8,7 @@ ghost use mathlib.Core.Path.{_≡_};
 ghost use Prim.Native.Nat.{_≤_, _<_};
 ghost use lib.ListN.{length};
 ghost use Rattle.rules.specs.Answers.{refused as refusedWith};
-ghost use Rattle.rules.specs.Coding.{bankSize};
+ghost use Rattle.rules.specs.Coding.{bankSize, wordCount};
 ghost use Rattle.rules.specs.BankNumbers.{wordsIn, controlIn, controlFields};
 ghost use Rattle.fields.specs.Controls.{controlOf};
 
@@ -49,6 +49,14 @@ pub fn size(words: usize) -> usize
     2 + 2 * words
 }
 
+// The word count W of a bank.
+pub fn word_count(bank: &[u8]) -> usize
+    requires { ⌜ 2 ≤ length (now bank) ⌝ }
+    ensures { λ r. ⌜ r ≡ wordCount (now (bank .entry)) ⌝ }
+{
+    field_at(bank, WORD_COUNT, 5) as usize
+}
+
 // Rules 9 and 10: the bank has all its words, and not none. The raw line is refused by these alone.
 pub fn words(bank: &[u8]) -> Control
     ensures { λ r. ⌜ r ≡ controlOf (wordsIn (now (bank .entry))) ⌝ }
@@ -56,7 +64,7 @@ pub fn words(bank: &[u8]) -> Control
     if bank.len() < 2 {
         return refused(refusal::BANK_TOO_SHORT, bank.len());
     }
-    let words = field_at(bank, WORD_COUNT, 5) as usize;
+    let words = word_count(bank);
     if bank.len() < size(words) {
         return refused(refusal::BANK_TOO_SHORT, bank.len());
     }

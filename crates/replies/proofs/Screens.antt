@@ -23,19 +23,19 @@ module _ (b l e : List ℕ) (k : ℕ) (long : replyRoom ≤ length l) where
   room : (p : ℕ) → p ≤ afterNumber → textRoom ≤ length (part l p)
   room p h = omega (arith, mid-len p (length l) l (omega arith))
 
-  pub text-shown : answered (Written k) e ≡ bankToText b (part l 2) → (k ≤ 116) × Wrote (ofBank b (tagOfBank b)) l (k + 2) (set (set (back l 2 e) 0 (code "T")) 1 space)
-  text-shown h =
-      let (τ, a, c, u, o) = text-written b (part l 2) e k (room 2 (omega arith)) h in
+  pub text-shown : (W : ℕ) → answered (Written k W) e ≡ bankToText b (part l 2) → (k ≤ 116) × Wrote (ofBank b (tagOfBank b)) l (k + 2) (set (set (back l 2 e) 0 (code "T")) 1 space)
+  text-shown W h =
+      let (τ, a, c, u, o) = text-written b (part l 2) e k (room 2 (omega arith)) W h in
       (u, rw a (record { end = omega arith; bytes = text-behind l (back l 2 e) (textOf τ) (code "T") (omega arith) (put-back l e 2 (textOf τ) (omega arith) o) }))
 
   pub text-hidden : (i : ℕ) → answered (Refused k i) e ≡ bankToText b (part l 2) → RefusedWith b k × (back l 2 e ≡ l)
   text-hidden i h = let (a, o) = bank-refused b (part l 2) e k (room 2 (omega arith)) i h in ((i, a), put-nothing l e 2 o)
 
   module _ (n at : ℕ) (after : List ℕ) (refusal : RefusedWith b n) where
-    pub raw-shown : answered (Written k) e ≡ rawLine b (part l afterNumber) → Wrote (code "R" ∷ space ∷ decimal n) (back l afterNumber e) at after
+    pub raw-shown : (W : ℕ) → answered (Written k W) e ≡ rawLine b (part l afterNumber) → Wrote (code "R" ∷ space ∷ decimal n) (back l afterNumber e) at after
         → (k ≤ 145) × (at ≡ 4) × Wrote (ofBank b (tagOfBank b)) l (k + afterNumber) (set after at space)
-    raw-shown h w =
-        let (a, c, o) = raw-written b (part l afterNumber) e k (room afterNumber (omega arith)) h in
+    raw-shown W h w =
+        let (a, c, o) = raw-written b (part l afterNumber) e k (room afterNumber (omega arith)) W h in
         let (p, q) = shown-number b n refusal a in
         let two = two-digits n p q in
         let d = decimal-long n in

@@ -15,6 +15,7 @@ use Rattle.rules.specs.Bytes.{bytes}
 use Rattle.rules.specs.Conditions.{First, textRules, bankRules, rawRules}
 use Rattle.rules.specs.ControlFields.{controlText}
 use Rattle.rules.specs.Grammar.{Tag, TagText, textOf, start, label}
+use Rattle.rules.specs.Schemes.{words}
 use Rattle.rules.specs.Coding.{at, bankOf, wordCount, within}
 use Rattle.rules.specs.TextNumbers.{after, tagOfText}
 use Rattle.rules.specs.BankNumbers.{tagOfBank}
@@ -68,8 +69,9 @@ text-short t = go (tagOfText t) (tag-reads t)
   where
     go : (a : Answer Tag) → Reads (textRules t) (TagText t) a → Short (length t) (ofText a)
     go (taken τ) h =
-        let l = length-hex (bankOf τ) in
-        let b = bank-length τ in
+        let W = words (τ .scheme) in
+        let l = length-hex (bankOf W τ) in
+        let b = bank-length W τ in
         let s = measured (τ .scheme) in
         let u = text-long τ in
         let e = ap length (h .1 .text) in
@@ -122,7 +124,7 @@ module _ (b : List ℕ) where
           let l = text-length (textOf τ) τ r in
           let w = text-of-words (textOf τ) τ r in
           let s = measured (τ .scheme) in
-          let c = h .1 .count in
+          let c = h .1 .enough in
           let k = h .1 .long in
           (omega arith, omega arith)
       go (refused n i) h = refused-short n i (h .1) (h .0)

@@ -10,6 +10,7 @@ use lib.ListN.{length}
 use Rattle.numeral.specs.Numeral.{shortest}
 use Rattle.rules.specs.Answers.{Answer, refused, taken}
 use Rattle.rules.specs.Bytes.{bytes, digitsText, hexText}
+use Rattle.rules.specs.Schemes.{words}
 use Rattle.rules.specs.Grammar.{Tag, textOf}
 use Rattle.rules.specs.Coding.{bankOf}
 use Rattle.rules.specs.TextNumbers.{after, tagOfText}
@@ -50,12 +51,12 @@ abbrev pub shown : ℕ → List ℕ → List ℕ
 shown n [] = replyN n
 shown n (x ∷ xs) = replyR n (x ∷ xs)
 
--- to a text, by what its tag is or the number that refuses it; no place is told
+-- to a text, by what its tag is or the number that refuses it: the bank in as few words as its scheme needs (document 02, C-15); no place is told
 abbrev pub ofText : Answer Tag → List ℕ
-ofText (taken τ) = replyB (bankOf τ)
+ofText (taken τ) = replyB (bankOf (words (τ .scheme)) τ)
 ofText (refused n p) = replyN n
 
--- to a bank, in the same way
+-- to a bank, in the same way; no W is told
 abbrev pub ofBank : List ℕ → Answer Tag → List ℕ
 ofBank b (taken τ) = replyT (textOf τ)
 ofBank b (refused n p) = shown n (screen [] (rawText b) n)

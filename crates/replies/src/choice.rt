@@ -34,8 +34,9 @@ fn text_reply(line: &[u8], out: &mut [u8]) -> usize
         return put_neither(out);
     }
     let mut bank = [0u8; BANK_ROOM];
-    match codec::text_to_bank(line, &mut bank) {
-        Answer::Written(n) => put_bank(&bank[..n], out),
+    // 0: in as few words as the scheme needs (document 02, C-15)
+    match codec::text_to_bank(line, 0, &mut bank) {
+        Answer::Written(n, _) => put_bank(&bank[..n], out),
         Answer::Refused(number, _) => put_number(b'N', number, out),
     }
 }
@@ -46,7 +47,7 @@ fn refused_reply(bank: &[u8], number: u8, out: &mut [u8]) -> usize
     ensures { λ r. ⌜ Wrote (ofBank (now (bank .entry)) (tagOfBank (now (bank .entry)))) (now (out .entry)) r (now (out .exit)) ⌝ }
 {
     match codec::raw_line(bank, &mut out[AFTER_NUMBER..]) {
-        Answer::Written(n) => {
+        Answer::Written(n, _) => {
             let end = put_number(b'R', number, out);
             out[end] = b' ';
             n + AFTER_NUMBER
@@ -61,7 +62,7 @@ fn bank_reply(bank: &[u8], out: &mut [u8]) -> usize
     ensures { λ r. ⌜ Wrote (ofBank (now (bank .entry)) (tagOfBank (now (bank .entry)))) (now (out .entry)) r (now (out .exit)) ⌝ }
 {
     match codec::bank_to_text(bank, &mut out[AFTER_LETTER..]) {
-        Answer::Written(n) => {
+        Answer::Written(n, _) => {
             out[0] = b'T';
             out[1] = b' ';
             n + AFTER_LETTER

@@ -7,7 +7,7 @@ use mathlib.Core.Option.{Option, some}
 use mathlib.Core.Bool.{Bool, true, false, not, cond}
 use native.Mathlib.Omega.{arith}
 use native.Mathlib.Nat.{le-trans, pow-le-pow-right}
-use lib.Dec.{T, ltb, eqb, ltb→lt, eqb→eq, lit<}
+use lib.Dec.{T, leb, ltb, eqb, leb→le, nleb→lt, ltb→lt, eqb→eq, lit<}
 use lib.ListN.{length, getD, take, drop, length-take, length-drop}
 use lib.Seq.{drop-drop, length-take-le, drop-cons, getD-drop}
 use Rattle.numeral.specs.Numeral.{value, Digits, spread}
@@ -22,7 +22,7 @@ use Rattle.rules.specs.declared.Parts.{Parts}
 use Rattle.rules.specs.declared.Parts.the-variants.{F, Integers}
 use Rattle.rules.specs.Schemes.{schemes, about, words, zeroBits, prefixBits}
 use Rattle.rules.specs.Grammar.{layout, Fits}
-use Rattle.rules.specs.Coding.{binary, coded, controlBits, at, wordCount, bankSize}
+use Rattle.rules.specs.Coding.{binary, coded, controlBits, at, wordCount, bankSize, EnoughWords}
 use Rattle.rules.specs.BankNumbers.{allZero, headed, codeIn, fieldsIn, wordsIn, controlIn, controlFields, tagOfBank}
 use Rattle.rules.specs.Raw.{rawText, rawOfBank}
 use Rattle.rules.specs.Conditions.{Rule, rule, OfBank, rowIn, zerosFrom, MustBeZero, OneAfter, FirstOne, NoRow, LargePrefix, LargeReference, WrongLast, LastAt, rawRules, bankRules}
@@ -156,7 +156,7 @@ last-alike b m n (F (Zeros t z)) e = (Iff·rfl, λ a h. h)
 last-alike b m n (F E) e = (Iff·rfl, λ a h. h)
 last-alike b m n (Integers x y z) e = (Iff·rfl, λ a h. h)
 
-module _ (b : List ℕ) (s : Scheme) (long : bankSize (wordCount b) ≤ length b) (count : wordCount b ≡ words s) (e : at b 0x20 8 ≡ about s .header) where
+module _ (b : List ℕ) (s : Scheme) (long : bankSize (wordCount b) ≤ length b) (enough : words s ≤ wordCount b) (e : at b 0x20 8 ≡ about s .header) where
   abbrev PartsShown : List (List ℕ) → Type 0
   PartsShown ps = (z : List ℕ) × Fits (layout s) ps × (drop 8 (codeIn b) ≡ coded (layout s) ps ++ z)
 
@@ -164,7 +164,7 @@ module _ (b : List ℕ) (s : Scheme) (long : bankSize (wordCount b) ≤ length b
   scheme-reads =
       let n = content s in
       let of = of-bank b s e in
-      let room : 8 + n ≤ 16 * wordCount b = omega (arith, sizes s .inside, sizes s .whole) in
+      let room : 8 + n ≤ 16 * wordCount b = omega (arith, sizes s .inside, sizes s .whole, enough) in
       let r = parts-read b (drop 8 (codeIn b)) n (digits-drop 2 8 (codeIn b) (code-bits b long)) (rw length-drop (omega (arith, code-length b long))) (λ p w h. seen p w (omega arith)) (about s .parts) (sizes s .parts) in
       let (wrong, place) = last-alike b (about s .bits) (8 + n) (about s .parts) (sizes s .whole) in
       reads-covers PartsShown (fieldsIn 0x28 (layout s) (drop 8 (codeIn b)))
@@ -182,29 +182,29 @@ module _ (b : List ℕ) (s : Scheme) (long : bankSize (wordCount b) ≤ length b
 -- Rules 14 to 19, once the header is a scheme's.
 abbrev headerRules : List ℕ → List Rule
 headerRules b =
-    rule 14 (OfBank b λ s. ¬ (wordCount b ≡ words s)) (_≡ 0x10) ∷
+    rule 14 (OfBank b λ s. wordCount b < words s) (_≡ 0x10) ∷
     rule 15 (OfBank b λ s. OneAfter b (zerosFrom s)) (λ p. OfBank b λ s. FirstOne b (zerosFrom s) p) ∷ schemeRules b
 
 header-reads : (b : List ℕ) (s : Scheme) → bankSize (wordCount b) ≤ length b → take 16 (spread 2 8 b) ≡ binary 5 (wordCount b) ++ controlBits (controlFields b) → at b 0x20 8 ≡ about s .header
-    → Reads (headerRules b) (Shown b) (demand (eqb (wordCount b) (words s)) 14 0x10 >> (demand (allZero (drop (zerosFrom s) (codeIn b))) 15 (one-at b (zerosFrom s)) >> (fieldsIn 0x28 (layout s) (drop 8 (codeIn b)) >>= λ ps. taken (record { scheme = s; control = controlFields b; parts = ps }))))
+    → Reads (headerRules b) (Shown b) (demand (leb (words s) (wordCount b)) 14 0x10 >> (demand (allZero (drop (zerosFrom s) (codeIn b))) 15 (one-at b (zerosFrom s)) >> (fieldsIn 0x28 (layout s) (drop 8 (codeIn b)) >>= λ ps. taken (record { scheme = s; control = controlFields b; parts = ps }))))
 header-reads b s long control e =
     let W = wordCount b in
     let c = codeIn b in
     let m = zerosFrom s in
     let p = one-at b m in
-    check _ (Shown b) 14 _ (_≡ 0x10) (T (eqb W (words s))) (demand (eqb W (words s)) 14 0x10) _ (lit< tt)
-    (settled-as 14 (¬ (W ≡ words s)) _ (_≡ 0x10) _ (demand (eqb W (words s)) 14 0x10) (of-bank b s e λ s. ¬ (W ≡ words s)) (settled-demand 14 0x10 (¬ (W ≡ words s)) (eqb W (words s)) (apart W (words s)) (λ h f. f (eqb→eq W (words s) h)))) λ h.
-    let count = eqb→eq W (words s) h in
+    check _ (Shown b) 14 _ (_≡ 0x10) (T (leb (words s) W)) (demand (leb (words s) W) 14 0x10) _ (lit< tt)
+    (settled-as 14 (W < words s) _ (_≡ 0x10) _ (demand (leb (words s) W) 14 0x10) (of-bank b s e λ s. W < words s) (settled-demand 14 0x10 (W < words s) (leb (words s) W) (nleb→lt (words s) W) (λ h l. omega (arith, leb→le (words s) W h)))) λ h.
+    let enough : EnoughWords W s = (leb→le (words s) W h, omega (arith, at-lt b 0x10 5)) in
     check _ (Shown b) 15 _ _ (T (allZero (drop m c))) (demand (allZero (drop m c)) 15 p) _ (lit< tt)
     (settled-at 15 p (OfBank b λ s. OneAfter b (zerosFrom s)) (λ p. OfBank b λ s. FirstOne b (zerosFrom s) p) (allZero (drop m c))
     (λ h. let (o, f) = one-after b long m h in ((s, e, o), (s, e, f))) (λ h o. none-after b long m h (of-bank b s e (λ s. OneAfter b (zerosFrom s)) .1 o))) λ z.
-    reads-map (schemeRules b) (PartsShown b s long count e) (Shown b) (λ ps. record { scheme = s; control = controlFields b; parts = ps }) (fieldsIn 0x28 (layout s) (drop 8 c)) (scheme-reads b s long count e) λ ps i.
+    reads-map (schemeRules b) (PartsShown b s long (enough .0) e) (Shown b) (λ ps. record { scheme = s; control = controlFields b; parts = ps }) (fieldsIn 0x28 (layout s) (drop 8 c)) (scheme-reads b s long (enough .0) e) λ ps i.
     record {
       fits = record { parts = i .1; control = (omega (arith, at-lt b 0x15 1), omega (arith, at-lt b 0x18 8)) };
-      count = count;
+      enough = enough;
       long = long;
-      control = rw (← count) control;
-      code = code-is s ps c (i .0) (code-bits b long) (code-length b long ∙ ap (16 *_) count) (sym (header-seen b long (omega (arith, sizes s .some-words))) ∙ e) (i .1) (i .2) z;
+      control = control;
+      code = code-is W s ps c (i .0) enough (code-bits b long) (code-length b long) (sym (header-seen b long (omega (arith, enough .0, sizes s .some-words))) ∙ e) (i .1) (i .2) z;
     }
 
 -- Rules 9 and 10: a bank that has its words, and not none.

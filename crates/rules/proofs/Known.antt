@@ -1,5 +1,5 @@
 -- The known tags, run through the public calls: document 01's rows 1 to 14 with tagline's example, an example of
--- 001's annex for each scheme, and gdti-113, which has none there, by hand; control fields; and places.
+-- 001's annex for each scheme, and gdti-113, which has none there, by hand; control fields; places; and long chips.
 use Prim.Native.Nat.{ℕ}
 use Prim.Native.String.{String}
 use mathlib.Core.Path.{_≡_, refl}
@@ -11,16 +11,19 @@ use Rattle.rules.specs.Bytes.{bytes}
 use Rattle.rules.specs.Schemes.{schemes, rows}
 use Rattle.rules.specs.Characters.{tableA1, escaped}
 use Rattle.rules.specs.Grammar.{textOf, start}
-use Rattle.rules.specs.Coding.{bankOf}
+use Rattle.rules.specs.Coding.{bankOf, wordCount}
 use Rattle.rules.specs.TextNumbers.{valueIn, tagOfText}
 use Rattle.rules.specs.BankNumbers.{tagOfBank}
 use Rattle.rules.specs.Raw.{rawText, rawOfBank}
-use Rattle.rules.specs.Calls.{Call, call, textToBank, bankToText, rawLine, bankRoom, textRoom}
+use Rattle.rules.specs.Calls.{Call, call, bankOfText, textToBank, bankToText, rawLine, bankRoom, textRoom}
 
--- what is known of a text and a bank: each gives the other, or one of them gives a number and a place; the raw line of a bank
+-- what is known of a text and a bank: each gives the other, in as many words as the scheme needs or in so many; or one of them gives a number and
+-- a place, the text where so many words are asked for; the raw line of a bank
 pub data Known : Type 0 where
   each : String → List ℕ → Known
+  long : String → ℕ → List ℕ → Known
   text : String → ℕ → ℕ → Known
+  asked : ℕ → String → ℕ → ℕ → Known
   bank : List ℕ → ℕ → ℕ → Known
   raw : List ℕ → String → Known
 
@@ -37,22 +40,29 @@ words11 = numeral 256 24
 unfoldable pub words13 : ℕ → List ℕ
 words13 = numeral 256 28
 
+unfoldable pub words31 : ℕ → List ℕ
+words31 = numeral 256 64
+
 -- an output of the room that a call asks for
 unfoldable pub blank : ℕ → List ℕ
 blank n = replicate n 7
 
 -- what the calls give, and what they should
 unfoldable pub gives : Known → List Call
-gives (each t b) = textToBank (bytes t) (blank bankRoom) ∷ bankToText b (blank textRoom) ∷ []
-gives (text t n p) = textToBank (bytes t) (blank bankRoom) ∷ []
+gives (each t b) = textToBank 0 (bytes t) (blank bankRoom) ∷ bankToText b (blank textRoom) ∷ []
+gives (long t W b) = textToBank W (bytes t) (blank bankRoom) ∷ bankToText b (blank textRoom) ∷ []
+gives (text t n p) = textToBank 0 (bytes t) (blank bankRoom) ∷ []
+gives (asked W t n p) = textToBank W (bytes t) (blank bankRoom) ∷ []
 gives (bank b n p) = bankToText b (blank textRoom) ∷ []
 gives (raw b t) = rawLine b (blank textRoom) ∷ []
 
 unfoldable pub expected : Known → List Call
-expected (each t b) = call (blank bankRoom) (taken b) ∷ call (blank textRoom) (taken (bytes t)) ∷ []
+expected (each t b) = let W = wordCount b in call (blank bankRoom) (taken (W, b)) ∷ call (blank textRoom) (taken (W, bytes t)) ∷ []
+expected (long t W b) = call (blank bankRoom) (taken (W, b)) ∷ call (blank textRoom) (taken (W, bytes t)) ∷ []
 expected (text t n p) = call (blank bankRoom) (refused n p) ∷ []
+expected (asked W t n p) = call (blank bankRoom) (refused n p) ∷ []
 expected (bank b n p) = call (blank textRoom) (refused n p) ∷ []
-expected (raw b t) = call (blank textRoom) (taken (bytes t)) ∷ []
+expected (raw b t) = call (blank textRoom) (taken (wordCount b, bytes t)) ∷ []
 
 unfoldable pub rows1to14 : List Known
 rows1to14 =
@@ -198,6 +208,28 @@ places =
     bank (words13 0x6800_3614257BF7194E70AEC400000000000000000000000000000400) 19 0x5A ∷
     bank (words6 0x3000_3F76451FD612640000000002) 19 0x57 ∷ []
 
-pub known-tags : (map gives rows1to14 ≡ map expected rows1to14) × (map gives annex ≡ map expected annex) × (map gives by-hand ≡ map expected by-hand) × (map gives section12 ≡ map expected section12) × (map gives fields ≡ map expected fields) × (map gives places ≡ map expected places)
-unfolding rows1to14 annex by-hand section12 fields places gives expected words6 words8 words11 words13 blank textToBank bankToText rawLine tagOfText valueIn tagOfBank rawOfBank rawText bankOf textOf gather value numeral spread sizeIn size shortest schemes rows tableA1 escaped start
-known-tags = (refl, refl, refl, refl, refl, refl)
+-- Long chips (document 02, C-15), by hand: the word count, and zeros behind the code. Row 1 in 8 words and in 7; row 6 in 31, all 64 bytes; row 5 in 7,
+-- whose zeros begin before the sixth word ends. Then a one bit at either end of the further words, and the first of two; fewer words than the scheme
+-- needs, which is row 14 too; and the words asked for.
+unfoldable pub long-chips : List Known
+long-chips =
+    long "urn:epc:tag:sgtin-96:3.0614141.812345.6789" 8 (words8 0x4000_3074257BF7194E4000001A85_00000000) ∷
+    long "urn:epc:tag:[umi=1]:sgtin-96:3.0614141.812345.6789" 7 (numeral 256 16 0x3C00_3074257BF7194E4000001A85_0000) ∷
+    long "urn:epc:tag:sgtin-96:3.0614141.812345.6789" 6 (words6 0x3000_3074257BF7194E4000001A85) ∷
+    long "urn:epc:tag:sgtin-198:0.0614141.812345.a.b" 31 (words31 0xF800_3614257BF7194E70AEC400000000000000000000000000000000_000000000000000000000000000000000000000000000000000000000000000000000000) ∷
+    long "urn:epc:tag:sscc-96:3.0614141.1234567890" 7 (numeral 256 16 0x3800_3174257BF4499602D2000000_0000) ∷
+    bank (words8 0x4000_3074257BF7194E4000001A85_80000000) 15 0x80 ∷
+    bank (words8 0x4000_3074257BF7194E4000001A85_00000001) 15 0x9F ∷
+    bank (words8 0x4000_3174257BF4499602D2000001_00000001) 15 0x7F ∷
+    bank (words31 0xF800_3614257BF7194E70AEC400000000000000000000000000000000_000000000000000000000000000000000000000000000000000000000000000000000001) 15 0x20F ∷
+    bank (words6 0x3000_3A76451FD7039A0000000000) 14 0x10 ∷
+    asked 32 "" 21 0 ∷
+    asked 32 "urn:epc:tag:sgtin-96:3.0614141.812345.6789" 21 0 ∷
+    asked 255 "urn:epc:tag:sgtin-96:3.0614141.812345.6789" 21 0 ∷
+    asked 5 "urn:epc:tag:sgtin-96:3.0614141.812345.6789" 22 0 ∷
+    asked 12 "urn:epc:tag:sgtin-198:0.0614141.812345.a.b" 22 0 ∷
+    asked 1 "urn:epc:tag:sgtin-96:3.0614141.812345.274877906944" 8 38 ∷ []
+
+pub known-tags : (map gives rows1to14 ≡ map expected rows1to14) × (map gives annex ≡ map expected annex) × (map gives by-hand ≡ map expected by-hand) × (map gives section12 ≡ map expected section12) × (map gives fields ≡ map expected fields) × (map gives places ≡ map expected places) × (map gives long-chips ≡ map expected long-chips)
+unfolding rows1to14 annex by-hand section12 fields places long-chips gives expected words6 words8 words11 words13 words31 blank textToBank bankToText rawLine bankOfText tagOfText valueIn tagOfBank rawOfBank rawText bankOf textOf gather value numeral spread sizeIn size shortest schemes rows tableA1 escaped start
+known-tags = (refl, refl, refl, refl, refl, refl, refl)

@@ -1,4 +1,4 @@
--- How long texts, banks and raw lines are: at most 116, 64 and 145, and the first and the last of these are reached.
+-- How long texts, banks and raw lines are: at most 116, 64 and 145, and each of these is reached.
 use Prim.Native.Nat.{ℕ, zero, suc, _+_, _-_, _*_, _/_, _^_, _≤_, _<_}
 use mathlib.Core.Path.{_≡_, refl, ap}
 use mathlib.Core.List.{List, [], _∷_, _++_}
@@ -23,14 +23,15 @@ use Rattle.rules.specs.Characters.{tableA1, escaped, plain, spelling, st
 use Rattle.rules.specs.declared.ControlName.the-variants.{Umi, Att}
 use Rattle.rules.specs.ControlFields.{standing, fieldsText, closed, controlText}
 use Rattle.rules.specs.Grammar.{plainNumber, last, Layout, part, end, laid, bodyLayout, Fit, Fits, more, one, spelled, written, Tag, TagText, textOf, start, label}
-use Rattle.rules.specs.Coding.{wordCount, within, bankOf}
+use Rattle.rules.specs.Coding.{wordCount, within, bankOf, mostWords, EnoughWords}
 use Rattle.rules.specs.TextNumbers.{valueIn, tagOfText, textNumber}
 use Rattle.rules.specs.Raw.{afi, afiText, rawText}
+use Rattle.rules.specs.Calls.{bankRoom}
 use Rattle.rules.proofs.Tests.{both, every, each}
 use Rattle.rules.proofs.Decimals.{all-digits}
 use Rattle.rules.proofs.Numbers.{whole-of}
 use Rattle.rules.proofs.Rows.{by-count, AllRows, by-row}
-use Rattle.rules.proofs.Codes.{sizes, has-row}
+use Rattle.rules.proofs.Codes.{has-row}
 use Rattle.rules.proofs.Banks.{bank-length}
 use Rattle.rules.proofs.BankReads.{at-lt}
 
@@ -216,8 +217,8 @@ text-length t τ r = let s = τ .scheme in omega (arith, text-within t τ r, cha
 pub text-of-words : (t : List ℕ) (τ : Tag) → TagText t τ → length t ≤ 17 + 16 * words (τ .scheme)
 text-of-words t τ r = let s = τ .scheme in omega (arith, text-within t τ r, characters-few (words s) (measured s .least-words))
 
-pub bank-size : (τ : Tag) → length (bankOf τ) ≤ 64
-bank-size τ = omega (arith, bank-length τ, sizes (τ .scheme) .few-words)
+pub bank-size : (W : ℕ) (τ : Tag) → EnoughWords W (τ .scheme) → length (bankOf W τ) ≤ 64
+bank-size W τ enough = omega (arith, bank-length W τ, enough .1)
 
 -- The raw line.
 hex-length : (l : List ℕ) → length (hexText l) ≡ 2 * length l
@@ -238,8 +239,12 @@ pub raw-length : (b : List ℕ) → length (rawText b) ≤ 145
 unfolding rawText
 raw-length b = raw-shape (16 * wordCount b) (afi b) (drop 2 (within b)) (omega (arith, at-lt b 0x10 5)) (search afi-length) (simp (length-drop, length-take) (omega (arith, at-lt b 0x10 5)))
 
-pub sizes-hold : (t b : List ℕ) (τ : Tag) → TagText t τ → (length t ≤ 116) × (length (bankOf τ) ≤ 64) × (length (rawText b) ≤ 145)
-sizes-hold t b τ r = (text-length t τ r, bank-size τ, raw-length b)
+pub sizes-hold : (t b : List ℕ) (W : ℕ) (τ : Tag) → TagText t τ → EnoughWords W (τ .scheme) → (length t ≤ 116) × (length (bankOf W τ) ≤ 64) × (length (rawText b) ≤ 145)
+sizes-hold t b W τ r enough = (text-length t τ r, bank-size W τ enough, raw-length b)
+
+-- a bank of 31 words fills the room that number 1 asks for, whatever its tag
+pub bank-fills : (τ : Tag) → length (bankOf mostWords τ) ≡ bankRoom
+bank-fills τ = bank-length mostWords τ
 
 -- a text of 116 characters that is taken, and a raw line of 145
 abbrev pub longest-text : List ℕ

@@ -22,6 +22,7 @@ pub mod CodeReads
 pub mod Banks
 pub mod ControlRules
 pub mod BankReads
+pub mod AskedWords
 pub mod OnePlace
 pub mod FirstRule
 pub mod Exact

@@ -2,7 +2,7 @@
 use Prim.Native.Nat.{ℕ, _≤_, _<_}
 use mathlib.Core.Path.{_≡_, sym, _∙_, ap}
 use mathlib.Core.Logic.{⊎-elim}
-use mathlib.Core.List.{List}
+use mathlib.Core.List.{List, [], _∷_, _++_}
 use native.Mathlib.Omega.{arith}
 use lib.ListN.{length, length-drop}
 use Rattle.numeral.proofs.Arithmetic.{lt-or-ge}
@@ -12,7 +12,7 @@ use Rattle.rules.specs.declared.Body.the-variants.{Then, Zeros, E}
 use Rattle.rules.specs.declared.Parts.{Parts}
 use Rattle.rules.specs.declared.Parts.the-variants.{F, Integers}
 use Rattle.rules.specs.Schemes.{about}
-use Rattle.rules.specs.Conditions.{fromFilter, fromPrefix, fromReference, fromLast, Begins, NameAt, PartAt, OfBank, FirstOne, LastAt, zerosFrom, textRules, rawRules, bankRules}
+use Rattle.rules.specs.Conditions.{Rule, fromFilter, fromPrefix, fromReference, fromLast, Begins, NameAt, PartAt, OfBank, FirstOne, LastAt, zerosFrom, textRules, askedRules, rawRules, bankRules}
 use Rattle.rules.proofs.Answers.{OnePlace}
 use Rattle.rules.proofs.ControlFaults.{one-control, one-fault}
 use Rattle.rules.proofs.TextReads.{of-text}
@@ -34,6 +34,15 @@ pub one-place-of-text : (t : List ℕ) → OnePlace (textRules t)
 unfolding textRules
 one-place-of-text t =
     (fixed 0, (one-fault t, (one-name t, (one-part t fromFilter, (one-part t fromPrefix, (one-part t fromReference, (one-part t fromLast, (one-part t fromLast, tt))))))))
+
+-- rules with one place each, and then others
+both-places : (rs qs : List Rule) → OnePlace rs → OnePlace qs → OnePlace (rs ++ qs)
+both-places [] qs h k = k
+both-places (r ∷ rs) qs h k = (h .0, both-places rs qs (h .1) k)
+
+pub one-place-of-asked : (W : ℕ) (t : List ℕ) → OnePlace (askedRules W t)
+unfolding askedRules
+one-place-of-asked W t = (fixed 0, both-places (textRules t) _ (one-place-of-text t) (fixed 0, tt))
 
 -- of two first ones neither comes before the other
 one-first-one : (b : List ℕ) (n p q : ℕ) → FirstOne b n p → FirstOne b n q → p ≡ q

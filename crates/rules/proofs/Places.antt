@@ -1,13 +1,13 @@
 -- Every place is small, whatever the length of what is read: an offset is at most 116, since what stands before it fits, and an address is one
--- of at most 31 words.
+-- of at most 31 words. So is every W.
 use Prim.Native.Nat.{ℕ, suc, _+_, _-_, _*_, _^_, _≤_, _<_}
 use mathlib.Core.Path.{_≡_, refl, ap}
 use mathlib.Core.Logic.{_⊎_, inl, inr}
 use mathlib.Core.List.{List, [], _∷_}
 use mathlib.Core.Option.{Option, none, some}
-use mathlib.Core.Bool.{Bool, true, false, cond}
+use mathlib.Core.Bool.{Bool, true, false, _||_, cond}
 use native.Mathlib.Omega.{arith}
-use lib.Dec.{leb, lit≤}
+use lib.Dec.{leb, eqb, lit≤}
 use lib.ListN.{length}
 use Rattle.rules.specs.Answers.{Answer, refused, taken, _>>=_, _>>_, demand, given, placeOf}
 use Rattle.rules.specs.Bytes.{upto, behind, dot, colon}
@@ -18,18 +18,19 @@ use Rattle.rules.specs.declared.Parts.the-variants.{F, Integers}
 use Rattle.rules.specs.Schemes.{Form, schemes, about, words}
 use Rattle.rules.specs.ControlFields.{fieldsText, noFields}
 use Rattle.rules.specs.Grammar.{Layout, part, end, layout, start, label, textOf}
-use Rattle.rules.specs.Coding.{wordCount, bankOf}
+use Rattle.rules.specs.Coding.{wordCount, mostWords}
 use Rattle.rules.specs.TextNumbers.{after, Controlled, bracketed, opens, controlFieldsIn, named, numberAt, partIn, lastIn, partsIn, tagOfText, textPlace}
 use Rattle.rules.specs.BankNumbers.{tagOfBank, bankPlace}
 use Rattle.rules.specs.Raw.{rawOfBank}
-use Rattle.rules.specs.Calls.{call, lent, bankRoom, textRoom, textToBank, bankToText, rawLine}
-use Rattle.rules.specs.Conditions.{Rule, Stands, First, partitionIn, LastAt, rawRules, bankRules}
-use Rattle.rules.proofs.Answers.{Settled, first-of}
+use Rattle.rules.specs.Calls.{Output, call, lent, bankRoom, textRoom, wordsToWrite, bankOfText, textToBank, bankToText, rawLine}
+use Rattle.rules.specs.Conditions.{Rule, Stands, First, partitionIn, LastAt, rawRules, bankRules, askedRules}
+use Rattle.rules.proofs.Answers.{Settled, Reads, first-of}
 use Rattle.rules.proofs.Rows.{narrow-row}
 use Rattle.rules.proofs.Codes.{sizes}
 use Rattle.rules.proofs.Reading.{PartIs, part-settled, LastIs, lastRules, last-reads, some-number}
 use Rattle.rules.proofs.ControlFaults.{behindBoth, fields}
 use Rattle.rules.proofs.BankReads.{at-lt, bank-reads, raw-reads}
+use Rattle.rules.proofs.AskedWords.{Encoded, bank-reads as asked-reads}
 use Rattle.rules.proofs.Lengths.{longest, part-length, Within, parts-within, fields-length, characters-few, left, measured}
 
 -- One reader after the other.
@@ -182,21 +183,68 @@ module _ (b : List ℕ) where
   raw-place = first-small 528 (rawRules b) raw-small _ _ (first-of (rawRules b) _ (rawOfBank b) (raw-reads b))
 
 -- So the place of every call fits 16 bits.
-call-place : (room m : ℕ) (out : List ℕ) (a : Answer (List ℕ)) → placeOf a ≤ m → call out (lent room out a) .place ≤ m
+call-place : (room m : ℕ) (out : List ℕ) (a : Answer Output) → placeOf a ≤ m → call out (lent room out a) .place ≤ m
 call-place room m out a h = go (leb room (length out))
   where
-    same : (a : Answer (List ℕ)) → placeOf a ≤ m → call out a .place ≤ m
+    same : (a : Answer Output) → placeOf a ≤ m → call out a .place ≤ m
     same (refused n p) h = h
-    same (taken w) h = omega arith
+    same (taken (W, w)) h = omega arith
 
     go : (t : Bool) → call out (demand t 1 0 >> a) .place ≤ m
     go true = same a h
     go false = omega arith
 
-pub places-fit : (t b out : List ℕ) → (textToBank t out .place < 2 ^ 16) × (bankToText b out .place < 2 ^ 16) × (rawLine b out .place < 2 ^ 16)
-unfolding textToBank bankToText rawLine textPlace bankPlace
-places-fit t b out = (
-  omega (arith, call-place bankRoom 116 out (tagOfText t >>= λ τ. taken (bankOf τ)) (placed 116 (tagOfText t) (λ τ. taken (bankOf τ)) (text-place t) λ τ _. omega arith)),
-  omega (arith, call-place textRoom 528 out (tagOfBank b >>= λ τ. taken (textOf τ)) (placed 528 (tagOfBank b) (λ τ. taken (textOf τ)) (bank-place b) λ τ _. omega arith)),
-  omega (arith, call-place textRoom 528 out (rawOfBank b) (raw-place b)),
+-- 21 and 22 have place 0
+checked : {X : Type 0} (m n : ℕ) (t : Bool) (a : Answer X) → placeOf a ≤ m → placeOf (demand t n 0 >> a) ≤ m
+checked m n true a h = h
+checked m n false a h = omega arith
+
+asked-place : (W : ℕ) (t : List ℕ) → placeOf (bankOfText W t) ≤ 116
+unfolding bankOfText textPlace
+asked-place W t =
+    checked 116 21 (leb W mostWords) _ (placed 116 (tagOfText t) _ (text-place t) λ τ _.
+    let s = τ .scheme in
+    placed 116 (wordsToWrite W s) _ (checked 116 22 (eqb W 0 || leb (words s) W) (taken (cond (eqb W 0) (words s) W)) (omega arith)) λ n _. omega arith)
+
+pub places-fit : (W : ℕ) (t b out : List ℕ) → (textToBank W t out .place < 2 ^ 16) × (bankToText b out .place < 2 ^ 16) × (rawLine b out .place < 2 ^ 16)
+unfolding textToBank bankToText rawLine bankPlace
+places-fit W t b out = (
+  omega (arith, call-place bankRoom 116 out (bankOfText W t) (asked-place W t)),
+  omega (arith, call-place textRoom 528 out (tagOfBank b >>= λ τ. taken (wordCount b, textOf τ)) (placed 528 (tagOfBank b) (λ τ. taken (wordCount b, textOf τ)) (bank-place b) λ τ _. omega arith)),
+  omega (arith, call-place textRoom 528 out (rawOfBank b >>= λ w. taken (wordCount b, w)) (placed 528 (rawOfBank b) (λ w. taken (wordCount b, w)) (raw-place b) λ w _. omega arith)),
+)
+
+-- And every W is at most 31: it is a word count, or one that can be written.
+abbrev FewWords : Answer Output → Type 0
+FewWords (refused n p) = Unit
+FewWords (taken (W, w)) = W ≤ mostWords
+
+call-words : (room : ℕ) (out : List ℕ) (a : Answer Output) → FewWords a → call out (lent room out a) .words ≤ mostWords
+call-words room out a h = go (leb room (length out))
+  where
+    same : (a : Answer Output) → FewWords a → call out a .words ≤ mostWords
+    same (refused n p) h = omega arith
+    same (taken (W, w)) h = h
+
+    go : (t : Bool) → call out (demand t 1 0 >> a) .words ≤ mostWords
+    go true = same a h
+    go false = omega arith
+
+counted-words : {X : Type 0} (b : List ℕ) (f : X → List ℕ) (a : Answer X) → FewWords (a >>= λ x. taken (wordCount b, f x))
+counted-words b f (refused n p) = tt
+counted-words b f (taken x) = omega (arith, few-words b)
+
+asked-words : (W : ℕ) (t : List ℕ) → FewWords (bankOfText W t)
+asked-words W t = go (bankOfText W t) (asked-reads W t)
+  where
+    go : (a : Answer Output) → Reads (askedRules W t) (Encoded W t) a → FewWords a
+    go (refused n p) h = tt
+    go (taken (n, w)) h = h .1 .enough .1
+
+pub words-fit : (W : ℕ) (t b out : List ℕ) → (textToBank W t out .words ≤ mostWords) × (bankToText b out .words ≤ mostWords) × (rawLine b out .words ≤ mostWords)
+unfolding textToBank bankToText rawLine
+words-fit W t b out = (
+  call-words bankRoom out (bankOfText W t) (asked-words W t),
+  call-words textRoom out (tagOfBank b >>= λ τ. taken (wordCount b, textOf τ)) (counted-words b textOf (tagOfBank b)),
+  call-words textRoom out (rawOfBank b >>= λ w. taken (wordCount b, w)) (counted-words b (λ w. w) (rawOfBank b)),
 )

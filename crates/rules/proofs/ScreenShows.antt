@@ -75,9 +75,9 @@ raw-wrote b out = go (c .number) refl
     go : (n : ℕ) → rawLine b out .number ≡ n → (wrote (rawLine b out) ≡ rawText b) ⊎ (wrote (rawLine b out) ≡ [])
     go zero e =
         let (w, r, n, o) = one-answer-of-raw-line b out (rawLine b out) .1 refl .accepted e in
-        inl (wrote-is out w (rawLine b out) n o ∙ r)
+        inl (wrote-is out w (rawLine b out) n o ∙ r .1)
     go (suc n) e =
-        let (w, o) = one-answer-of-raw-line b out (rawLine b out) .1 refl .refused (λ z. omega arith) in
+        let (_, w, o) = one-answer-of-raw-line b out (rawLine b out) .1 refl .refused (λ z. omega arith) in
         inr (rw w)
 
 raw-wrote-differs : (b out : List ℕ) → ¬ (LooksLikeATag (wrote (rawLine b out)))
@@ -97,12 +97,14 @@ refusal-shows-no-tag tag b out n z =
 abbrev pub onScreen : List ℕ → List ℕ → List ℕ → List ℕ
 onScreen b out out′ = screen (wrote (bankToText b out)) (wrote (rawLine b out′)) (bankToText b out .number)
 
--- a tag URI is shown only if writing it again gives the same bank
+-- a tag URI is shown only if writing it again, with the W given beside it, gives the same bank
+abbrev WritesAgain : List ℕ → Call → Type 0
+WritesAgain b c = (c .number ≡ 0) × (wrote c ≡ within b)
+
 pub screen-rule : (b out out′ out″ : List ℕ) → Digits 256 b → bankRoom ≤ length out″ → LooksLikeATag (onScreen b out out′)
-    → (textToBank (onScreen b out out′) out″ .number ≡ 0) × (wrote (textToBank (onScreen b out out′) out″) ≡ within b)
+    → WritesAgain b (textToBank (bankToText b out .words) (onScreen b out out′) out″)
 screen-rule b out out′ out″ d l r = go (bankToText b out .number) refl
   where
-    go : (n : ℕ) → bankToText b out .number ≡ n
-        → (textToBank (onScreen b out out′) out″ .number ≡ 0) × (wrote (textToBank (onScreen b out out′) out″) ≡ within b)
-    go zero e = unfold screen in rw e (again b out out″ d l e)
+    go : (n : ℕ) → bankToText b out .number ≡ n → WritesAgain b (textToBank (bankToText b out .words) (onScreen b out out′) out″)
+    go zero e = unfold screen in let (z, _, w) = again b out out″ d l e in rw e (z, w)
     go (suc n) e = absurd (refusal-shows-no-tag (wrote (bankToText b out)) b out′ (bankToText b out .number) (λ z. omega arith) r)

@@ -119,11 +119,14 @@ module _ (t : List ℕ) (s : Scheme) (v : List ℕ) (e : IsNamed t s v) where
       let r : _≡_ {A = Named} (record { scheme = s′; rest = v′ }) (record { scheme = s; rest = v }) = cc (named-of s′ v′, named-of s v, ap (named schemes) q) in
       (ap (λ c. c .scheme) r, ap (λ c. c .rest) r)
 
-  pub of-text : (Q : Parts → List ℕ → Type 0) → Q (about s .parts) v ↔ OfText t Q
-  of-text Q = (λ q. (s, v, e, q), back)
+  pub of-named : (Q : Scheme → List ℕ → Type 0) → Q s v ↔ ((s : Scheme) × (u : List ℕ) × IsNamed t s u × Q s u)
+  of-named Q = (λ q. (s, v, e, q), back)
     where
-      back : OfText t Q → Q (about s .parts) v
+      back : ((s : Scheme) × (u : List ℕ) × IsNamed t s u × Q s u) → Q s v
       back r = let (x, y) = one-name (r .0) (r .1) (r .2) in rw (x, y) at (r .3)
+
+  pub of-text : (Q : Parts → List ℕ → Type 0) → Q (about s .parts) v ↔ OfText t Q
+  of-text Q = of-named λ s. Q (about s .parts)
 
 -- the rules behind the name
 abbrev nameRules : List ℕ → List Rule

@@ -1,4 +1,4 @@
--- Bank to text: the number and the place of a bank (document 01, "Numbers given, and when": 9 to 19; document 02, C-12 and C-13). A reader
+-- Bank to text: the number and the place of a bank (document 01, "Numbers given, and when": 9 to 19; document 02, C-12, C-13 and C-15). A reader
 -- is told at which address its bits begin.
 use Prim.Native.Nat.{ℕ, _+_, _-_, _*_, _/_, _^_}
 use mathlib.Core.List.{List, [], _∷_}
@@ -116,7 +116,7 @@ tagOfBank b = do
   let code = codeIn b
   W ← controlIn b
   s ← given (headed (value 2 (take 8 code)) schemes) 13 0x20
-  demand (eqb W (words s)) 14 0x10
+  demand (leb (words s) W) 14 0x10
   let n = about s .bits - zeroBits (about s .parts)
   demand (allZero (drop n code)) 15 (0x20 + (n + length (upto 1 (drop n code))))
   ps ← fieldsIn 0x28 (layout s) (drop 8 code)

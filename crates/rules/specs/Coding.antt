@@ -1,5 +1,5 @@
--- The bank of a tag (document 01, "The bank"; document 02, C-13): its bits, most significant first, eight to a byte.
-use Prim.Native.Nat.{ℕ, _+_, _-_, _*_}
+-- The bank of a tag in W words (document 01, "The bank"; document 02, C-13 and C-15): its bits, most significant first, eight to a byte.
+use Prim.Native.Nat.{ℕ, _+_, _-_, _*_, _≤_}
 use mathlib.Core.Path.{_≡_}
 use mathlib.Core.List.{List, [], _∷_, _++_}
 use lib.ListN.{length, take, drop, replicate}
@@ -30,24 +30,31 @@ coded (part r f k) (p ∷ ps) = partBits f p ++ coded (k p) ps
 coded (end r f) [] = []
 coded (end r f) (p ∷ ps) = partBits f p
 
--- the header, the parts, and zeros to the end of the last word; table B's 24 zero bits are of those
-abbrev pub codeOf : Scheme → List (List ℕ) → List ℕ
-codeOf s ps = filled (16 * words s) (binary 8 (about s .header) ++ coded (layout s) ps)
+-- the header, the parts, and zeros to the end of the last word; table B's 24 zero bits are of those, and all words that the scheme doesn't need
+abbrev pub codeOf : ℕ → Scheme → List (List ℕ) → List ℕ
+codeOf W s ps = filled (16 * W) (binary 8 (about s .header) ++ coded (layout s) ps)
 
 -- 15h: umi; 16h and 17h: 0; 18h to 1Fh: att
 abbrev pub controlBits : ControlFields → List ℕ
 controlBits c = binary 1 (c .umi) ++ (replicate 2 0 ++ binary 8 (c .att))
 
 -- the word count, the other eleven control bits, the code
-abbrev pub bitsOf : Scheme → ControlFields → List (List ℕ) → List ℕ
-bitsOf s c ps = binary 5 (words s) ++ (controlBits c ++ codeOf s ps)
+abbrev pub bitsOf : ℕ → Scheme → ControlFields → List (List ℕ) → List ℕ
+bitsOf W s c ps = binary 5 W ++ (controlBits c ++ codeOf W s ps)
 
 -- the bytes of a bank of W words
 abbrev pub bankSize : ℕ → ℕ
 bankSize W = 2 + 2 * W
 
-unfoldable pub bankOf : Tag → List ℕ
-bankOf τ = gather 2 8 (bankSize (words (τ .scheme))) (bitsOf (τ .scheme) (τ .control) (τ .parts))
+unfoldable pub bankOf : ℕ → Tag → List ℕ
+bankOf W τ = gather 2 8 (bankSize W) (bitsOf W (τ .scheme) (τ .control) (τ .parts))
+
+-- the W that a bank of a scheme can have: from the scheme's count to 31, the most that five bits count
+abbrev pub mostWords : ℕ
+mostWords = 31
+
+abbrev pub EnoughWords : ℕ → Scheme → Type 0
+EnoughWords W s = (words s ≤ W) × (W ≤ mostWords)
 
 -- n bits of a bank from an address on; the lent bank starts at address 10h
 abbrev pub at : List ℕ → ℕ → ℕ → ℕ
@@ -60,7 +67,8 @@ wordCount b = at b 0x10 5
 abbrev pub within : List ℕ → List ℕ
 within b = take (bankSize (wordCount b)) b
 
--- b is the bank of the tag τ, which keeps the limits
-pub record TagBank (b : List ℕ) (τ : Tag) : Type 0 where
+-- b is the bank of the tag τ, which keeps the limits, in W words
+pub record TagBank (b : List ℕ) (W : ℕ) (τ : Tag) : Type 0 where
   pub fits : TagFits τ
-  pub bank : within b ≡ bankOf τ
+  pub enough : EnoughWords W (τ .scheme)
+  pub bank : within b ≡ bankOf W τ

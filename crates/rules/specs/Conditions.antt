@@ -1,4 +1,4 @@
--- When each number applies, by itself and in the words of document 01 ("Numbers given, and when") and document 02 (C-11 and C-13), and its
+-- When each number applies, by itself and in the words of document 01 ("Numbers given, and when") and document 02 (C-11, C-13 and C-15), and its
 -- place (document 02, C-12), apart from the readers of TextNumbers and BankNumbers.
 use Prim.Native.Nat.{ℕ, _+_, _-_, _*_, _/_, _^_, _≤_, _<_}
 use mathlib.Core.Path.{_≡_}
@@ -197,6 +197,18 @@ textRules t =
     -- last part's value, or its number of characters or digits, is too large
     rule 8 (OfText t (OfLast TooLarge)) (PartAt t fromLast) ∷ []
 
+-- 22: W is neither 0 nor at least the scheme's count
+abbrev pub TooFew : ℕ → Scheme → Type 0
+TooFew W s = (¬ (W ≡ 0)) × (¬ (words s ≤ W))
+
+-- a text, and the W asked for
+unfoldable pub askedRules : ℕ → List ℕ → List Rule
+askedRules W t =
+    -- W is above 31, whatever the text
+    rule 21 (31 < W) (_≡ 0) ∷
+    (textRules t ++
+    (rule 22 ((s : Scheme) × (u : List ℕ) × Named t s u × TooFew W s) (_≡ 0) ∷ []))
+
 -- BANK TO TEXT
 
 abbrev pub OfBank : List ℕ → (Scheme → Type 0) → Type 0
@@ -209,11 +221,11 @@ partitionIn b = at b 0x2B 3
 abbrev pub rowIn : List ℕ → Row
 rowIn b = rowAt (partitionIn b)
 
--- the code bit behind the parts, from which on all must be 0: the 24 zero bits, and the fill
+-- the code bit behind the parts, from which on all must be 0: the 24 zero bits, the fill, and the words that the scheme doesn't need
 abbrev pub zerosFrom : Scheme → ℕ
 zerosFrom s = about s .bits - zeroBits (about s .parts)
 
--- 15: a fill bit or one of the 24 zero bits, the bits of the code from bit n on, is 1
+-- 15: a fill bit, one of the 24 zero bits or a bit of the further words, the bits from code bit n to the last of the W words, is 1
 abbrev pub MustBeZero : List ℕ → ℕ → ℕ → Type 0
 MustBeZero b n a = (0x20 + n ≤ a) × (a < 0x20 + 16 * wordCount b)
 
@@ -288,8 +300,8 @@ bankRules b =
     rule 12 (at b 0x16 1 ≡ 1) (_≡ 0x16) ∷
     -- header not in the table
     rule 13 (¬ ((s : Scheme) × (at b 0x20 8 ≡ about s .header))) (_≡ 0x20) ∷
-    -- W differs from the scheme's word count
-    rule 14 (OfBank b λ s. ¬ (wordCount b ≡ words s)) (_≡ 0x10) ∷
+    -- fewer words than the scheme needs
+    rule 14 (OfBank b λ s. wordCount b < words s) (_≡ 0x10) ∷
     rule 15 (OfBank b λ s. OneAfter b (zerosFrom s)) (λ p. OfBank b λ s. FirstOne b (zerosFrom s) p) ∷
     rule 16 (OfBank b λ s. NoRow b (about s .parts)) (_≡ 0x2B) ∷
     rule 17 (OfBank b λ s. LargePrefix b (about s .parts)) (_≡ 0x2E) ∷

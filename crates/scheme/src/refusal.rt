@@ -2,6 +2,10 @@
 pub const OUTPUT_TOO_SHORT: u8 = 1;
 
 // Text to bank.
+
+// Looked at right after 1 (document 02, C-15): more words are asked for than five bits count.
+pub const TOO_MANY_WORDS: u8 = 21;
+
 pub const START: u8 = 2;
 
 // Looked at between 2 and 3 (document 02, C-13).
@@ -18,6 +22,9 @@ pub const REFERENCE: u8 = 6;
 pub const LAST_PART_FORM: u8 = 7;
 
 pub const LAST_PART_SIZE: u8 = 8;
+
+// Looked at after 8 (document 02, C-15): fewer words are asked for than the scheme needs.
+pub const TOO_FEW_WORDS: u8 = 22;
 
 // Bank to text.
 pub const BANK_TOO_SHORT: u8 = 9;

@@ -104,6 +104,7 @@ pub struct Scheme {
     pub name: &'static [u8],
     pub header: u8,
     pub bits: usize,
+    /// How many it needs; a bank may have more.
     pub words: usize,
     pub parts: &'static [Part],
     /// Zero bits after the last part, that no text writes.
@@ -111,7 +112,7 @@ pub struct Scheme {
 }
 
 impl Scheme {
-    /// The code bits from here to the end of the last word are zero.
+    /// The code bits from here to the end of the bank's last word are zero.
     pub fn zero_from(&self) -> usize {
         self.bits - self.zeros
     }

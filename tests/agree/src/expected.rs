@@ -1,4 +1,4 @@
-//! Every place that a refusal can have, by the tables of documents 01 and 02 and the words of requests C-12 and C-13.
+//! Every place that a refusal can have, by the tables of documents 01 and 02 and the words of requests C-12, C-13 and C-15.
 use crate::place::{Place, Why};
 use crate::seen::has_rows;
 use second::tables::*;
@@ -7,16 +7,21 @@ use std::collections::BTreeSet;
 /// How many characters `umi`, `att` and both take before the name, with the colon behind them.
 const FIELDS: [usize; 3] = [8, 10, 17];
 
+/// Word counts asked for that no bank can have.
+const TOO_MANY: [u32; 5] = [32, 255, 256, 65_536, u32::MAX];
+
 /// The row in which parts are expected behind control fields.
 const MIDDLE: usize = 3;
 
 pub fn places() -> BTreeSet<Place> {
     let mut found = BTreeSet::new();
+    found.extend(TOO_MANY.map(|words| at(21, 0, Why::Asked(words))));
     found.extend([Why::Plain, Why::AtEnd].map(|why| at(2, 0, why)));
     found.extend(of_control_fields_and_names());
     found.extend(of_any_bank());
     for scheme in &SCHEMES {
-        found.extend(of_words(scheme).into_iter().map(|place| Place { scheme: Some(scheme.name), ..place }));
+        let found_here = of_words(scheme).into_iter().chain(of_further_words(scheme));
+        found.extend(found_here.map(|place| Place { scheme: Some(scheme.name), ..place }));
         found.extend(of_parts_behind_fields(scheme).into_iter().map(|place| placed(scheme, MIDDLE, place)));
         for (partition, row) in ROWS.iter().enumerate() {
             let found_here = of_parts(scheme, row).into_iter().chain(of_fields(scheme, row));
@@ -28,7 +33,7 @@ pub fn places() -> BTreeSet<Place> {
 
 /// A number at a place, of no scheme, no row and no control fields.
 fn at(number: u32, place: usize, why: Why) -> Place {
-    Place { scheme: None, row: None, fields: 0, number, place: place as u32, why }
+    Place { scheme: None, row: None, fields: 0, number, place: place as u16, why }
 }
 
 /// 20 with a wrong field first or behind each good one, or no colon behind them; 3 without control fields and behind each.
@@ -110,15 +115,35 @@ fn of_any_bank() -> Vec<Place> {
     found
 }
 
-/// 14; 15 with each bit that must be zero as the first one, alone and with all after it; 16.
+/// 22 in one word less than the scheme needs; 14 in each word count that is less; 15 with each bit that must be zero as the first one, alone
+/// and with all after it; 16.
 fn of_words(scheme: &Scheme) -> Vec<Place> {
-    let mut found = vec![at(14, 0x10, Why::Plain)];
+    let mut found = vec![at(22, 0, Why::Asked(scheme.words as u32 - 1))];
+    found.extend((1..scheme.words).map(|words| at(14, 0x10, Why::Words(words))));
     let end = 0x20 + 16 * scheme.words;
     for address in 0x20 + scheme.zero_from()..end {
         let alone = 1 << (end - 1 - address);
         found.extend([alone, 2 * alone - 1].map(|bits| at(15, address, Why::Bits(bits))));
     }
     found.extend(has_rows(scheme).then_some(at(16, 0x2B, Why::Plain)));
+    found
+}
+
+/// 15 in a bank with further words: the first and the last bit of each, alone, and with a later one for the first scheme that needs so many
+/// words; the first and the last bit that must be zero before them, alone and with a later one.
+fn of_further_words(scheme: &Scheme) -> Vec<Place> {
+    let (start, further) = (0x20 + scheme.zero_from(), 0x20 + 16 * scheme.words);
+    let end = 0x20 + 16 * MOST_WORDS;
+    let mut found = Vec::new();
+    let first = SCHEMES.iter().find(|other| other.words == scheme.words);
+    let later = first.is_some_and(|first| first.name == scheme.name);
+    for address in (further..end).filter(|address| matches!(address % 16, 0 | 15)) {
+        found.push(at(15, address, Why::Ones(1)));
+        found.extend((later && address < end - 1).then_some(at(15, address, Why::Ones(2))));
+    }
+    if start < further {
+        found.extend([start, further - 1].iter().flat_map(|&address| [1, 2].map(|ones| at(15, address, Why::Ones(ones)))));
+    }
     found
 }
 

@@ -1,26 +1,41 @@
-//! The proved library and second on the same lines: each is a text, and where it is upper-case hexadecimal, a bank too. Both give the same
-//! number, place, length and output. The lines of the first file must show every place that a refusal can have.
+//! The proved library and second on the same lines: each is a text, to be written in some word counts, and where it is upper-case
+//! hexadecimal, a bank too. Both give the same number, place, words, length and output. The lines of the first file must show every place
+//! that a refusal can have.
 #[path = "../../../bench/src/codecs.rs"]
 mod codecs;
 mod expected;
 mod place;
 mod seen;
 
-use codecs::{give, Pair, Reply, BANK_TO_TEXT, RAW_LINE, TEXT_TO_BANK};
+use codecs::{text_to_bank, Pair, Reply, BANK_TO_TEXT, MOST_WORDS, RAW_LINE, SMALLEST};
 use place::Place;
 use second::tables::{BANK_ROOM, TEXT_ROOM};
 use std::collections::BTreeSet;
 
-/// A call of both codecs, and the least output that it takes.
+/// A call of both codecs, the least output that it takes, and the others that it is given.
 struct Call {
     name: &'static str,
     pair: Pair,
     room: usize,
+    others: &'static [usize],
 }
 
-const TEXT: Call = Call { name: "text_to_bank", pair: TEXT_TO_BANK, room: BANK_ROOM };
-const BANK: Call = Call { name: "bank_to_text", pair: BANK_TO_TEXT, room: TEXT_ROOM };
-const RAW: Call = Call { name: "raw_line", pair: RAW_LINE, room: TEXT_ROOM };
+const BANK: Call = Call { name: "bank_to_text", pair: BANK_TO_TEXT, room: TEXT_ROOM, others: &[TEXT_ROOM - 1, TEXT_ROOM + MORE] };
+const RAW: Call = Call { name: "raw_line", pair: RAW_LINE, ..BANK };
+
+/// The first word count that is too large.
+const TOO_MANY: u32 = MOST_WORDS + 1;
+
+/// The word counts that every text is asked for: 0; each scheme's own, and one less; the most; and larger ones, two of which are 0 in their
+/// last 8 or 16 bits.
+const ASKED: [u32; 15] = [SMALLEST, 5, 6, 7, 8, 10, 11, 12, 13, MOST_WORDS, TOO_MANY, 255, 256, 65_536, u32::MAX];
+
+/// Text to bank, asked for so many words. To save time, only two counts go into every output: 0, and the first that is too large, since 1
+/// comes before 21. The others go into the least.
+const fn text(words: u32) -> Call {
+    let others: &[usize] = if matches!(words, SMALLEST | TOO_MANY) { &[BANK_ROOM - 1, BANK_ROOM + MORE] } else { &[] };
+    Call { name: "text_to_bank", pair: text_to_bank(words), room: BANK_ROOM, others }
+}
 
 /// How many bytes the larger output has more than the least.
 const MORE: usize = 37;
@@ -37,8 +52,10 @@ struct Tally {
 
 impl Tally {
     fn line(&mut self, line: &[u8]) -> Result<(), String> {
-        let reply = self.call(&TEXT, line)?;
-        self.seen.extend(seen::in_text(line, reply));
+        for words in ASKED {
+            let reply = self.call(&text(words), line).map_err(|what| format!("asked for {words} words, {what}"))?;
+            self.seen.extend(seen::in_text(line, words, reply));
+        }
         if let Some(bank) = from_hex(line) {
             let reply = self.call(&BANK, &bank)?;
             self.seen.extend(seen::in_bank(&bank, reply));
@@ -47,16 +64,17 @@ impl Tally {
         Ok(())
     }
 
-    /// The reply of both codecs: with too little room, with more than the least, and last with that. The output holds some bytes before, and
-    /// then their complements; so no byte that is written passes for one that was there both times.
+    /// The reply of both codecs, into the other outputs and last into the least.
     fn call(&mut self, call: &Call, input: &[u8]) -> Result<Reply, String> {
-        for room in [call.room - 1, call.room + MORE] {
-            agreed(call, input, room, 0x00)?;
-            agreed(call, input, room, 0xFF)?;
-        }
-        agreed(call, input, call.room, 0x00)?;
-        self.calls += 6;
-        agreed(call, input, call.room, 0xFF)
+        call.others.iter().try_for_each(|&room| self.write(call, input, room).map(drop))?;
+        self.write(call, input, call.room)
+    }
+
+    /// The output holds some bytes before, and then their complements; so no byte that is written passes for one that was there both times.
+    fn write(&mut self, call: &Call, input: &[u8], room: usize) -> Result<Reply, String> {
+        self.calls += 2;
+        agreed(call, input, room, 0x00)?;
+        agreed(call, input, room, 0xFF)
     }
 }
 
@@ -64,7 +82,7 @@ impl Tally {
 fn agreed(call: &Call, input: &[u8], room: usize, turned: u8) -> Result<Reply, String> {
     let mut ours: Vec<u8> = (0..room).map(|i| (i * 151 + 90) as u8 ^ turned).collect();
     let mut theirs = ours.clone();
-    let (reply, other) = (give(call.pair.proved, input, &mut ours), give(call.pair.second, input, &mut theirs));
+    let (reply, other) = (call.pair.proved.give(input, &mut ours), call.pair.second.give(input, &mut theirs));
     let differ = |what: String| Err(format!("{} into {room} bytes: {what}", call.name));
     if reply != other {
         return differ(format!("the library gives {reply:?}, second {other:?}"));

@@ -9,10 +9,14 @@ pub enum Why {
     AtEnd,
     /// A control field is wrong.
     Field,
+    /// The word count that is asked for.
+    Asked(u32),
     /// The bank's word count.
     Words(usize),
-    /// The bits that must be zero; for 12, all control bits from 15h on.
+    /// The bits that must be zero, in a bank of the scheme's own words; for 12, all control bits from 15h on.
     Bits(u32),
+    /// How many of the bits that must be zero are one, in a bank with further words.
+    Ones(usize),
     /// The first group of a string that is wrong.
     Group(usize),
     /// How many decimal digits a numeric string's integer has.
@@ -27,7 +31,7 @@ pub struct Place {
     pub row: Option<usize>,
     pub fields: usize,
     pub number: u32,
-    pub place: u32,
+    pub place: u16,
     pub why: Why,
 }
 
@@ -39,6 +43,7 @@ impl fmt::Display for Place {
         match number {
             0..=8 | 20 => write!(f, "{number} at offset {place}")?,
             9 => write!(f, "{number} at {place} bytes")?,
+            21 | 22 => write!(f, "{number}")?,
             _ => write!(f, "{number} at {place:X}h")?,
         }
         if *fields > 0 {
@@ -48,8 +53,10 @@ impl fmt::Display for Place {
             Why::Plain => Ok(()),
             Why::AtEnd => write!(f, ", the text's end"),
             Why::Field => write!(f, ", where a control field is wrong"),
+            Why::Asked(words) => write!(f, ", asked for {words} words"),
             Why::Words(words) => write!(f, " of {words} words"),
             Why::Bits(bits) => write!(f, ", the bits being {bits:X} in hexadecimal"),
+            Why::Ones(ones) => write!(f, " in a bank with further words, where {ones} of the bits are one"),
             Why::Group(group) => write!(f, ", where group {group} is wrong, counted from 0"),
             Why::Digits(digits) => write!(f, ", where the integer has {digits} digits"),
         }

@@ -3,9 +3,10 @@ use crate::codecs::Reply;
 use crate::place::{Place, Why};
 use second::tables::{Part, Scheme, CHARACTER_BITS, ROWS, TAG_START};
 
-/// The place of a text's refusal.
-pub fn in_text(text: &[u8], Reply { number, place, .. }: Reply) -> Option<Place> {
-    let why = match text.get(place as usize) {
+/// The place of the refusal of a text that is asked for in so many words.
+pub fn in_text(text: &[u8], words: u32, Reply { number, place, .. }: Reply) -> Option<Place> {
+    let why = match text.get(usize::from(place)) {
+        _ if number == 21 || number == 22 => Why::Asked(words),
         None => Why::AtEnd,
         Some(b'[') if number == 20 => Why::Field,
         Some(_) => Why::Plain,
@@ -15,7 +16,7 @@ pub fn in_text(text: &[u8], Reply { number, place, .. }: Reply) -> Option<Place>
     if number == 0 {
         return None;
     }
-    if !(3..=8).contains(&number) {
+    if !matches!(number, 3..=8 | 22) {
         return of(None, None, 0);
     }
     let (fields, named) = behind_fields(&text[TAG_START.len()..]);
@@ -23,7 +24,7 @@ pub fn in_text(text: &[u8], Reply { number, place, .. }: Reply) -> Option<Place>
         return of(None, None, fields);
     }
     let (name, parts) = split(named, b':');
-    let row = if number > 5 { row_of(name, parts) } else { None };
+    let row = if (6..=8).contains(&number) { row_of(name, parts) } else { None };
     of(Scheme::by_name(name), row, fields)
 }
 
@@ -69,11 +70,22 @@ pub fn in_bank(bank: &[u8], Reply { number, place, .. }: Reply) -> Option<Place>
     let scheme = Scheme::by_header(bank[2])?;
     let row = if number > 16 { Some(bits(bank, 0x2B, 3) as usize) } else { None };
     let why = match number {
-        15 => Why::Bits(bits(bank, 0x20 + scheme.zero_from(), 16 * scheme.words - scheme.zero_from()) as u32),
+        14 => Why::Words(bits(bank, 0x10, 5) as usize),
+        15 => ones(bank, scheme),
         19 => wrong_string(bank, scheme),
         _ => Why::Plain,
     };
     of(Some(scheme), row, why)
+}
+
+/// The bits that must be zero; in a bank with further words how many of them are one.
+fn ones(bank: &[u8], scheme: &Scheme) -> Why {
+    let (start, words) = (0x20 + scheme.zero_from(), bits(bank, 0x10, 5) as usize);
+    let end = 0x20 + 16 * words;
+    if words == scheme.words {
+        return Why::Bits(bits(bank, start, end - start) as u32);
+    }
+    Why::Ones((start..end).filter(|&address| bits(bank, address, 1) == 1).count())
 }
 
 /// What is wrong with the string that a scheme ends with.

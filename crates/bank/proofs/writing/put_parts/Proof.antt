@@ -11,14 +11,14 @@ put-body-requires c κs =
     let start = c .before .before .before in
     let parts = start .before .before .before in
     let s = parts .before .before .before .before in
-    (start-leaves (s .args .outline) (s .args .tag .control) (s .pre .0) (start .put-start .ensures), rw (parts .parts .given .1) at (s .pre .3))
+    (start-leaves (s .args .words) (s .args .outline .header) (s .args .tag .control) (s .pre .0) (start .put-start .ensures), rw (parts .parts .given .1) at (s .pre .3))
 
 put-integers-requires : tie.Need-put-integers-requires
 put-integers-requires c κs =
     let start = c .before .before .before in
     let parts = start .before .before .before in
     let s = parts .before .before .before .before in
-    let leaves = start-leaves (s .args .outline) (s .args .tag .control) (s .pre .0) (start .put-start2 .ensures) in
+    let leaves = start-leaves (s .args .words) (s .args .outline .header) (s .args .tag .control) (s .pre .0) (start .put-start2 .ensures) in
     (record { sound = leaves .sound; room = omega (arith, leaves .room) }, rw (parts .parts2 .given .1) at (s .pre .3))
 
 table : tie.Need-returns

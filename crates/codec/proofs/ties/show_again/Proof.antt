@@ -11,15 +11,15 @@ use Rattle.codec.proofs.ties.show_again.Tie as tie
 
 -- the first call's answer, by its case
 called : (c : tie.After-slice-known3) (r : Answer) → let x = c .before .before .before .before .before .before .before .args in
-    c .before .before .text-to-bank .result ≡ r → answered r (c .before .before .text-to-bank .last .1 .0) ≡ textToBank (x .text .now) (x .bank .now)
-called c r e = ap (λ r. answered r (c .before .before .text-to-bank .last .1 .0)) (sym e) ∙ c .before .before .text-to-bank .ensures
+    c .before .before .text-to-bank .result ≡ r → answered r (c .before .before .text-to-bank .last .1 .1 .0) ≡ textToBank (x .words) (x .text .now) (x .bank .now)
+called c r e = ap (λ r. answered r (c .before .before .text-to-bank .last .1 .1 .0)) (sym e) ∙ c .before .before .text-to-bank .ensures
 
 room : tie.Need-slice-reshare-prefix-bank-to-text
 room c =
     let s = c .before .before .before in
     let a = s .before .before .before .before .before .before in
     let x = a .before .args in
-    written-room (x .text .now) (x .bank .now) (x .out .now) _ (s .before .before .text-to-bank .last .1 .0) (called s _ (c .before .length .given .1))
+    written-room (x .words) (x .text .now) (x .bank .now) (x .out .now) _ _ (s .before .before .text-to-bank .last .1 .1 .0) (called s _ (c .before .length .given .1))
 
 part : tie.Need-slice-aggregate-bank-to-text
 part c = sym (length-take-le _ _ (room (c .before)))
@@ -30,7 +30,7 @@ returns c =
     let a = s .before .before .before .before .before .before in
     let x = a .before .args in
     let e = called s _ (c .before .before .before .before .before .before .length .given .1) in (
-      c .before .before .bank-to-text .ensures ∙ written-again (x .text .now) (x .bank .now) (x .out .now) _ (s .before .before .text-to-bank .last .1 .0) e,
+      c .before .before .bank-to-text .ensures ∙ written-again (x .words) (x .text .now) (x .bank .now) (x .out .now) _ _ (s .before .before .text-to-bank .last .1 .1 .0) e,
       ap (λ c. c .output) (s .before .before .text-to-bank .ensures),
     )
 
@@ -40,7 +40,7 @@ returns-2 c =
     let a = s .before .before .before .before .before .before in
     let x = a .before .args in
     let e = called s _ (c .before .n .given .1) in
-    (not-written (x .text .now) (x .bank .now) (x .out .now) _ (s .before .before .text-to-bank .last .1 .0) _ e, ap (λ c. c .output) (s .before .before .text-to-bank .ensures))
+    (not-written (x .words) (x .text .now) (x .bank .now) (x .out .now) _ _ (s .before .before .text-to-bank .last .1 .1 .0) e, ap (λ c. c .output) (s .before .before .text-to-bank .ensures))
 
 pub show-again-spec : {M : Type 1} → statement M
 show-again-spec =

@@ -21,7 +21,7 @@ room c =
     let a = s .before .before .before .before .before .before in
     let x = a .before .args in
     let d = digits-of 256 (x .bank .now) λ i h. a .shared-slice-known .given i .fits in
-    shown-room (x .bank .now) (x .text .now) (x .out .now) d _ (s .before .before .bank-to-text .last .1 .0) (called s _ (c .before .length .given .1))
+    shown-room (x .bank .now) (x .text .now) (x .out .now) d _ _ (s .before .before .bank-to-text .last .1 .0) (called s _ (c .before .length .given .1))
 
 part : tie.Need-slice-aggregate-text-to-bank
 part c = sym (length-take-le _ _ (room (c .before)))
@@ -33,7 +33,7 @@ returns c =
     let x = a .before .args in
     let d = digits-of 256 (x .bank .now) λ i h. a .shared-slice-known .given i .fits in
     let e = called s _ (c .before .before .before .before .before .before .length .given .1) in (
-      c .before .before .text-to-bank .ensures ∙ shown-again (x .bank .now) (x .text .now) (x .out .now) d _ (s .before .before .bank-to-text .last .1 .0) e,
+      c .before .before .text-to-bank .ensures ∙ shown-again (x .bank .now) (x .text .now) (x .out .now) d _ _ (s .before .before .bank-to-text .last .1 .0) e,
       ap (λ c. c .output) (s .before .before .bank-to-text .ensures),
     )
 
@@ -44,7 +44,7 @@ returns-2 c =
     let x = a .before .args in
     let d = digits-of 256 (x .bank .now) λ i h. a .shared-slice-known .given i .fits in
     let e = called s _ (c .before .number .given .1) in
-    (not-shown (x .bank .now) (x .text .now) (x .out .now) d _ (s .before .before .bank-to-text .last .1 .0) _ e, ap (λ c. c .output) (s .before .before .bank-to-text .ensures))
+    (not-shown (x .bank .now) (x .text .now) (x .out .now) d _ _ (s .before .before .bank-to-text .last .1 .0) e, ap (λ c. c .output) (s .before .before .bank-to-text .ensures))
 
 pub write-again-spec : {M : Type 1} → statement M
 write-again-spec =

@@ -8,7 +8,7 @@ use Rattle.fields.proofs.control.words.Statement.{statement}
 use Rattle.fields.proofs.control.words.Tie as tie
 
 counted : tie.Need-returns-4
-counted c = sym (ap controlOf (words-are (now (c .before .before .before .before .before .before .args .bank)) (search needs) _ (c .before .before .before .field-at .ensures) (search needs) (c .if3 .left)))
+counted c = sym (ap controlOf (words-are (now (c .before .before .before .before .before .before .args .bank)) (search needs) _ (c .before .before .before .word-count .ensures) (search needs) (c .if3 .left)))
 
 pub words-spec : {M : Type 1} → statement M
 words-spec =
@@ -17,9 +17,9 @@ words-spec =
     (λ c κs. search needs)
     (λ c. refuses _ 9 _ _ (c .refused .ensures) (no-bytes (now (c .before .before .before .args .bank)) (c .before .if1 .taken)))
     (λ c κs. search needs)
-    (λ c κs. few-words (now (c .before .before .before .args .bank)) (search needs) _ (c .field-at .ensures))
+    (λ c κs. few-words (now (c .before .before .before .args .bank)) (search needs) _ (c .word-count .ensures))
     (λ c κs. search needs)
-    (λ c. refuses _ 9 _ _ (c .refused2 .ensures) (few-bytes (now (c .before .before .before .before .before .before .args .bank)) (search needs) _ (c .before .before .before .field-at .ensures) (search needs)))
+    (λ c. refuses _ 9 _ _ (c .refused2 .ensures) (few-bytes (now (c .before .before .before .before .before .before .args .bank)) (search needs) _ (c .before .before .before .word-count .ensures) (search needs)))
     (λ c κs. search needs)
-    (λ c. refuses _ 10 _ _ (c .refused3 .ensures) (no-words (now (c .before .before .before .before .before .before .before .args .bank)) (search needs) _ (c .before .before .before .before .field-at .ensures) (search needs) (c .before .if3 .taken)))
+    (λ c. refuses _ 10 _ _ (c .refused3 .ensures) (no-words (now (c .before .before .before .before .before .before .before .args .bank)) (search needs) _ (c .before .before .before .before .word-count .ensures) (search needs) (c .before .if3 .taken)))
     counted)

@@ -23,7 +23,7 @@ shown c =
     let n = c .before .n in
     let text = c .before .before .before .before .before .bank-to-text in
     let s = c .before .before .before .before .before .before .before .before .before in
-    text-shown (s .args .bank .now) (s .args .out .now) (text .last .1 .0) (n .given .0 .0) (s .pre) (rw (n .given .1) at (text .ensures))
+    text-shown (s .args .bank .now) (s .args .out .now) (text .last .1 .0) (n .given .0 .0) (s .pre) _ (rw (n .given .1) at (text .ensures))
 
 hidden : (c : tie.After-known-told2) → let n = c .before .number .given .0 .0 in
     let e = c .before .before .before .before .before .bank-to-text .last .1 .0 in

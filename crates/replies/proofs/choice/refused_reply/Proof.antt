@@ -21,7 +21,7 @@ shown c =
     let n = c .before .before .before .before .before .n in
     let raw = c .before .before .before .before .before .before .before .before .before .raw-line in
     let s = c .before .before .before .before .before .before .before .before .before .before .before .before .before in
-    raw-shown (s .args .bank .now) (s .args .out .now) (raw .last .1 .0) (n .given .0 .0) (s .pre .1) (s .args .number) (put .result) (put .last .1 .1 .0) (s .pre .0)
+    raw-shown (s .args .bank .now) (s .args .out .now) (raw .last .1 .0) (n .given .0 .0) (s .pre .1) (s .args .number) (put .result) (put .last .1 .1 .0) (s .pre .0) _
     (rw (n .given .1) at (raw .ensures)) (put .ensures)
 
 slice-write-out : tie.Need-slice-write-out

@@ -21,14 +21,14 @@ long c =
 -- the bank that was written, from the place where its length is known
 wrote : (c : tie.After-known-told) → let b = c .before .before .before .before in
     let n = c .before .n .given .0 .0 in
-    let e = b .text-to-bank .last .1 .0 in
+    let e = b .text-to-bank .last .1 .1 .0 in
     (n ≤ bankRoom) × (n ≡ length (take n e)) × (ofText (tagOfText (b .before .before .before .before .before .args .line .now)) ≡ replyB (take n e))
 wrote c =
     let b = c .before .before .before .before in
-    bank-written (b .before .before .before .before .before .args .line .now) _ (b .text-to-bank .last .1 .0) (c .before .n .given .0 .0) (lit≤ tt) (rw (c .before .n .given .1) at (b .text-to-bank .ensures))
+    bank-written (b .before .before .before .before .before .args .line .now) _ (b .text-to-bank .last .1 .1 .0) (c .before .n .given .0 .0) (lit≤ tt) _ (rw (c .before .n .given .1) at (b .text-to-bank .ensures))
 
 inside : tie.Need-array-share-prefix-bank
-inside c = let (l, e, _) = wrote c in omega (arith, length-take (c .before .n .given .0 .0) (c .before .before .before .before .text-to-bank .last .1 .0))
+inside c = let (l, e, _) = wrote c in omega (arith, length-take (c .before .n .given .0 .0) (c .before .before .before .before .text-to-bank .last .1 .1 .0))
 
 counted : tie.Need-slice-aggregate-put-bank
 counted c = wrote (c .before) .1
@@ -47,7 +47,7 @@ refused c =
     let b = c .before .before .before .before .before .before .before .before in
     let s = b .before .before .before .before .before in
     let n = c .before .before .before .before .before .number in
-    let e = text-refused (s .args .line .now) _ (b .text-to-bank .last .1 .0) (n .given .0 .0) (lit≤ tt) _ (rw (n .given .1) at (b .text-to-bank .ensures)) in
+    let e = text-refused (s .args .line .now) _ (b .text-to-bank .last .1 .1 .0) (n .given .0 .0) (lit≤ tt) _ (rw (n .given .1) at (b .text-to-bank .ensures)) in
     rw (le-leb (length (s .args .line .now)) mostCharacters (b .before .before .if1 .left), e) (c .before .before .put-number .ensures)
 
 pub text-reply-spec : {M : Type 1} → statement M
