@@ -97,8 +97,8 @@ module _ {r : Record} {τ : Tag} (h : RecordIs r τ) {o : Outline} (e : o ≡ ou
     fill : length bits + zerosTo (bankSize W) t ≡ 8 * bankSize W
     fill = omega (arith, counted (so-far .written), bits-long, bits-inside)
 
-    pub takes-zeros : 64 ≤ length l → ZerosFit t (bankSize W) (length after)
-    takes-zeros long = record {
+    pub takes-zeros : (n : ℕ) → n ≡ bankSize W → 64 ≤ length l → ZerosFit t n (length after)
+    takes-zeros n size long = record {
       sound = w .sound;
       before = omega (arith, counted (so-far .written), bits-long, bits-inside);
       inside = omega (arith, kept (w .written), fits-tag .1);
@@ -109,10 +109,10 @@ module _ {r : Record} {τ : Tag} (h : RecordIs r τ) {o : Outline} (e : o ≡ ou
     unfolding bankOf
     bank-is = rw (bits-are (zerosTo (bankSize W) t) fill)
 
-    pub ends : {after′ : List ℕ} {u : Stream} → Streamed after (t .at) (waiting t ++ replicate (zerosTo (bankSize W) t) 0) after′ u
-        → (bankSize W ≡ length (bankOf W τ)) × (after′ ≡ bankOf W τ ++ drop (length (bankOf W τ)) l)
-    ends u =
+    pub ends : (n : ℕ) → n ≡ bankSize W → {after′ : List ℕ} {u : Stream} → Streamed after (t .at) (waiting t ++ replicate (zerosTo n t) 0) after′ u
+        → (n ≡ length (bankOf W τ)) × (after′ ≡ bankOf W τ ++ drop (length (bankOf W τ)) l)
+    ends n size u =
         let zeros : List ℕ = replicate (zerosTo (bankSize W) t) 0 in
         let all : length (bits ++ zeros) ≡ 8 * bankSize W = rw (length-append bits, length-replicate) fill in
-        let stored = ended (continued so-far zeros u) (bankSize W) all .0 in
-        (sym (bank-length W τ), stored ∙ rw bank-is (splice-front l (bankOf W τ)))
+        let stored = ended (continued so-far zeros (rw size at u)) (bankSize W) all .0 in
+        (size ∙ sym (bank-length W τ), stored ∙ rw bank-is (splice-front l (bankOf W τ)))

@@ -31,14 +31,14 @@ few-bits = by-row (λ P r. assetBits r ≤ 62) few-assets
 pub parts-narrow : (s : Scheme) → Narrow (about s .parts)
 parts-narrow Sgtin96 = omega arith
 parts-narrow Sgtin198 = omega arith
-parts-narrow Sscc96 = (omega arith, tt)
+parts-narrow Sscc96 = tt
 parts-narrow Sgln96 = omega arith
 parts-narrow Sgln195 = omega arith
 parts-narrow Grai96 = omega arith
 parts-narrow Grai170 = omega arith
 parts-narrow Giai96 = tt
-parts-narrow Gsrn96 = (omega arith, tt)
-parts-narrow Gsrnp96 = (omega arith, tt)
+parts-narrow Gsrn96 = tt
+parts-narrow Gsrnp96 = tt
 parts-narrow Gdti96 = omega arith
 parts-narrow Gdti174 = omega arith
 parts-narrow Gid96 = omega arith

@@ -18,12 +18,12 @@ abbrev pub outlineOf : Scheme → Outline
 outlineOf s = record { header = about s .header; bits = about s .bits; words = words s; parts = about s .parts }
 
 -- what the code needs of the widths: an integer has at most 57 bits; a string is 1 to 20 whole groups of seven bits; a numeric string has
--- 32 to 62 bits and 1 to 17 digits; at most 24 zero bits follow, and those behind exactly the row's digits
+-- 32 to 62 bits and 1 to 17 digits; zero bits follow only behind exactly the row's digits
 abbrev pub Narrow : Parts → Type 0
 Narrow (F (Then t (Integer n))) = n ≤ 57
 Narrow (F (Then t (String n))) = (n ≡ 7 * (n / 7)) × (0 < n / 7) × (n / 7 ≤ 20)
 Narrow (F (Then t (Numeric n k))) = (32 ≤ n) × (n ≤ 62) × (0 < k) × (k ≤ 17)
-Narrow (F (Zeros t n)) = (n ≤ 24) × T (exact t)
+Narrow (F (Zeros t n)) = T (exact t)
 Narrow (F E) = Unit
 Narrow (Integers a b c) = (a ≤ 57) × (b ≤ 57) × (c ≤ 57)
 

@@ -10,7 +10,7 @@ small-place : tie.Need-in-numbers-requires
 small-place c κs =
     let call = c .before .before in
     let x = call .before .before .before .before .args in
-    small (call .text-to-bank .result) _ _ (call .text-to-bank .ensures) (places-fit (x .words) (x .text .now) [] (x .out .now) .0) (words-fit (x .words) (x .text .now) [] (x .out .now) .0)
+    small (call .text-to-bank .result) _ _ (call .text-to-bank .ensures) (places-fit _ (x .text .now) [] (x .out .now) .0) (words-fit _ (x .text .now) [] (x .out .now) .0)
 
 returns : tie.Need-returns
 returns c =

@@ -32,13 +32,13 @@ put-zeros-requires : tie.Need-put-zeros-requires
 put-zeros-requires c κs =
     let z = c .before in
     let (room, (tag, enough)) = begin z .pre in
-    rw (size-is z) (takes-zeros (tag .is) (about z .about .ensures) enough (parts z .put-parts .ensures) room)
+    takes-zeros (tag .is) (about z .about .ensures) enough (parts z .put-parts .ensures) (z .size .result) (size-is z) room
 
 returns : tie.Need-returns
 returns c τ is =
     let f = c .before .before in
     let z = f .before .before in
-    rw (size-is z) (ends is (about z .about .ensures) (begin z .pre .1 .1) (parts z .put-parts .ensures) (rw (size-is z) at (f .put-zeros .ensures)))
+    ends is (about z .about .ensures) (begin z .pre .1 .1) (parts z .put-parts .ensures) (z .size .result) (size-is z) (f .put-zeros .ensures)
 
 pub write-spec : {M : Type 1} → statement M
 write-spec =
