@@ -1,17 +1,16 @@
--- Characters of a string as one number: the next one, how large it is, its bits, and the number parted again.
-use Prim.Native.Nat.{ℕ, _+_, _*_, _/_, _%_, _^_, _≤_, _<_}
-use mathlib.Core.Path.{_≡_, ap, _∙_}
+-- Characters of a string as one number: the next one, how large it is, and its bits.
+use Prim.Native.Nat.{ℕ, _+_, _*_, _^_, _≤_, _<_}
+use mathlib.Core.Path.{_≡_, _∙_}
 use mathlib.Core.List.{List}
 use native.Mathlib.Nat.{pow-le-pow-right, lt-of-lt-of-le}
 use native.Mathlib.Numerals.{add-one}
 use native.Mathlib.Omega.{arith}
 use lib.Dec.{lit<}
-use lib.ListN.{length, take, drop, getD, set, length-drop}
+use lib.ListN.{length, take, drop, getD, length-drop}
 use lib.Seq.{take-suc, getD-drop, length-take-le}
-use Rattle.numeral.specs.Numeral.{value, numeral, Digits, spread, splice}
-use Rattle.numeral.proofs.Values.{length-numeral, numeral-snoc, numeral-of-value, value-snoc, value-lt, digits-take, digits-drop}
+use Rattle.numeral.specs.Numeral.{value, numeral, Digits, spread}
+use Rattle.numeral.proofs.Values.{numeral-of-value, value-snoc, value-lt, digits-take, digits-drop}
 use Rattle.numeral.proofs.Spreads.{length-spread, digits-spread, value-spread}
-use Rattle.numeral.proofs.Splices.{splice-behind}
 
 module _ (cs : List ℕ) (from : ℕ) where
   pub next-character : (i : ℕ) → from + i < length cs → value 128 (take (i + 1) (drop from cs)) ≡ value 128 (take i (drop from cs)) * 128 + getD cs (from + i) 0
@@ -36,8 +35,3 @@ module _ (cs : List ℕ) (from : ℕ) where
 -- seven characters leave room for one more in a word
 pub small : (v n : ℕ) → v < 128 ^ n → n ≤ 7 → v < 0x2000000000000
 small v n h l = lt-of-lt-of-le h (pow-le-pow-right (lit< tt) l)
-
--- the last character first, and those before it afterwards
-pub put-character : (s : List ℕ) (p v n : ℕ) → p + n < length s → splice (set s (p + n) (v % 128)) p (numeral 128 n (v / 128)) ≡ splice s p (numeral 128 (n + 1) v)
-put-character s p v n h =
-    splice-behind s p (numeral 128 n (v / 128)) (v % 128) (p + n) (ap (p +_) (length-numeral 128 n (v / 128))) h ∙ rw (numeral-snoc 128 n v)

@@ -1,8 +1,8 @@
-// The characters of a string eight at a time: their 56 bits are one number, read and written at once.
+// The characters of a string eight at a time: their 56 bits are one number, written at once.
 ghost use mathlib.Core.Path.{_≡_};
 ghost use Prim.Native.Nat.{_+_, _≤_};
 ghost use lib.ListN.{length, take, drop};
-ghost use Rattle.numeral.specs.Numeral.{value, numeral, Digits, splice};
+ghost use Rattle.numeral.specs.Numeral.{value, Digits};
 
 // The n characters from index `from` on, joined into one number.
 pub fn joined(characters: &[u8], from: usize, n: usize) -> u64
@@ -16,18 +16,4 @@ pub fn joined(characters: &[u8], from: usize, n: usize) -> u64
         i += 1;
     }
     v
-}
-
-// Splits the number v into n characters, and stores them from index `from` on, the last one first.
-pub fn split(characters: &mut [u8], from: usize, n: usize, v: u64)
-    requires { ⌜ from + n ≤ length (now characters) ⌝ }
-    ensures { λ _. ⌜ now (characters .exit) ≡ splice (now (characters .entry)) from (numeral 128 n v) ⌝ }
-{
-    let mut i = n;
-    let mut rest = v;
-    while 0 < i {
-        i -= 1;
-        characters[from + i] = (rest % 128) as u8;
-        rest = rest / 128;
-    }
 }

@@ -1,6 +1,5 @@
 // A bank to the record of its tag: the rules 9 to 19, in their order (document 01, "Numbers given, and when"). Each function goes on where
 // the one before it stopped, and returns the whole bank's result.
-use super::eights;
 use fields::bitreader::first_one;
 use fields::bitreader::take;
 use fields::control;
@@ -107,7 +106,7 @@ fn groups(bank: &[u8], from: CodeBit, k: usize) -> [u8; MOST_CHARACTERS]
     while i < k {
         let n = bits::least(k - i, 8);
         let next = take(bank, at, 7 * n);
-        eights::split(&mut groups, i, n, next.value);
+        bits::split(&mut groups, i, n, next.value, 128);
         at = next.at;
         i += n;
     }

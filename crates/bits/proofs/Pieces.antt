@@ -21,11 +21,17 @@ piece-is xs at n fits within =
     let place : 8 * (at / 8) + at % 8 ≡ at = omega arith in
     ap (value 2) (rw (width, place) at (field-in 2 (at % 8) n (8 - at % 8 - n) xs (at / 8) within)) ∙ value-numeral 2 n _
 
--- all eight bits of it
+-- all bits of it from one on
+pub rest-is : (xs : List ℕ) (at : ℕ) → at / 8 < length xs → fieldAt xs at (8 - at % 8) ≡ getD xs (at / 8) 0 % 2 ^ (8 - at % 8)
+rest-is xs at within =
+    let none : 8 - at % 8 - (8 - at % 8) ≡ 0 = omega arith in
+    rw (none, pow-zero, div-one) at (piece-is xs at (8 - at % 8) (omega arith) within)
+
+-- all eight
 pub byte-is : (xs : List ℕ) (at : ℕ) → at % 8 ≡ 0 → at / 8 < length xs → getD xs (at / 8) 0 < 256 → fieldAt xs at 8 ≡ getD xs (at / 8) 0
 byte-is xs at start within byte =
-    let none : 8 - at % 8 - 8 ≡ 0 = omega arith in
-    piece-is xs at 8 (omega arith) within ∙ rw (none, pow-zero, div-one) (mod-eq-of-lt byte)
+    let all : 8 - at % 8 ≡ 8 = omega arith in
+    rw all at (rest-is xs at within) ∙ mod-eq-of-lt byte
 
 pub field-none : (xs : List ℕ) (at : ℕ) → fieldAt xs at 0 ≡ 0
 field-none xs at = value-nil 2

@@ -1,18 +1,17 @@
 -- The steps of `push`: the new bits join those that wait, byte after byte is stored, and the number left keeps only the bits that wait.
 use mathlib.Core.Path.{_≡_, refl, sym, _∙_}
-use Prim.Native.Nat.{ℕ, _+_, _-_, _*_, _/_, _%_, _^_, _≤_, _<_}
+use Prim.Native.Nat.{ℕ, _+_, _*_, _/_, _%_, _^_, _≤_, _<_}
 use native.Mathlib.Omega.{arith}
 use native.Mathlib.Nat.{lt-of-lt-of-le, mod-lt}
-use mathlib.Core.List.{List, [], _∷_, _++_, append-nil}
-use lib.ListN.{length, set}
+use mathlib.Core.List.{List, _++_}
+use lib.ListN.{length}
 use lib.Arith.{digits-lt, digits-div, digits-mod}
 use lib.Pow.{pow-add, pow-pos, pow-mono}
 use lib.Dec.{lit<}
-use Rattle.numeral.specs.Numeral.{numeral, spread}
-use Rattle.numeral.proofs.Values.{numeral-append, numeral-mod}
-use Rattle.numeral.proofs.Splices.{splice-one}
-use Rattle.bits.specs.Streams.{Written, Streamed}
-use Rattle.bits.proofs.Streams.{more}
+use Rattle.numeral.specs.Numeral.{numeral, splice}
+use Rattle.numeral.proofs.Values.{numeral-append, numeral-mod, length-numeral, digits-numeral}
+use Rattle.numeral.proofs.Spreads.{spread-numeral}
+use Rattle.bits.specs.Streams.{Streamed}
 
 -- n bits and w more are one number; up to 64 bits fit a word
 module _ (n w u v : ℕ) (h : v < 2 ^ w) where
@@ -24,35 +23,22 @@ module _ (n w u v : ℕ) (h : v < 2 ^ w) where
   pub join-lt : n + w ≤ 64 → u < 2 ^ n → u * 2 ^ w + v < 2 ^ 64
   join-lt k l = lt-of-lt-of-le (rw pow-add (digits-lt l h)) (pow-mono k)
 
--- the upper eight of the n bits that wait are stored as a byte
-byte : (l : List ℕ) (at b n : ℕ) → 8 ≤ n → at < length l
-    → Written l at (numeral 2 n b) (set l at (b / 2 ^ (n - 8) % 256)) (record { at = at + 1; bits = b; count = n - 8 })
-unfolding spread
-byte l at b n h k =
-    let x : ℕ = b / 2 ^ (n - 8) in
-    let e : 8 + (n - 8) ≡ n = omega arith in
+-- the n bits of b: whole bytes are stored, and the bits behind them wait
+pub pushed : (l : List ℕ) (a b n : ℕ) → a + n / 8 ≤ length l
+    → Streamed l a (numeral 2 n b) (splice l a (numeral 256 (n / 8) (b / 2 ^ (n % 8)))) (record { at = a + n / 8; bits = b % 2 ^ (n % 8); count = n % 8 })
+pushed l a b n h =
+    let k = n / 8 in
+    let r = n % 8 in
+    let x = b / 2 ^ r in
+    let e : 8 * k + r ≡ n = omega arith in
     record {
-      whole = x % 256 ∷ [];
-      bytes = (mod-lt x (lit< tt), tt);
-      parts = rw (append-nil, numeral-mod 2 8 x (lit< tt)) (rw e at (numeral-append 2 8 (n - 8) b));
-      stored = sym (splice-one l at (x % 256) k);
-      stands = refl;
-      inside = omega arith;
+      sound = record { few = mod-lt n (lit< tt); clear = mod-lt b (pow-pos r) };
+      written = record {
+        whole = numeral 256 k x;
+        bytes = digits-numeral 256 k x (lit< tt);
+        parts = rw (spread-numeral 2 8 k x (lit< tt), numeral-mod 2 r b (lit< tt)) (rw e at (numeral-append 2 (8 * k) r b));
+        stored = refl;
+        stands = rw length-numeral (omega arith);
+        inside = omega arith;
+      };
     }
-
-module _ {before : List ℕ} {a : ℕ} {ds after : List ℕ} {at b n : ℕ} (w : Written before a ds after (record { at = at; bits = b; count = n })) where
-  pub store : 8 ≤ n → at < length after → Written before a ds (set after at (b / 2 ^ (n - 8) % 256)) (record { at = at + 1; bits = b; count = n - 8 })
-  store h k = rw append-nil at (more w [] (rw (← append-nil (numeral 2 n b)) at (byte after at b n h k)))
-
-  pub clear : n < 8 → Streamed before a ds after (record { at = at; bits = b % 2 ^ n; count = n })
-  clear h = record {
-    sound = record { few = h; clear = mod-lt b (pow-pos n) };
-    written = record {
-      whole = w .whole;
-      bytes = w .bytes;
-      parts = w .parts ∙ rw (numeral-mod 2 n b (lit< tt));
-      stored = w .stored;
-      stands = w .stands;
-      inside = w .inside;
-    };
-  }

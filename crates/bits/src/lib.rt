@@ -1,9 +1,9 @@
 // Fields of bits in a slice of bytes, most significant bit first: read at any place, and written one after the other.
 ghost use mathlib.Core.Path.{_≡_};
 ghost use mathlib.Core.List.{_++_};
-ghost use Prim.Native.Nat.{_+_, _*_, _/_, _%_, _^_, min, _≤_, _<_};
+ghost use Prim.Native.Nat.{_+_, _-_, _*_, _/_, _%_, _^_, min, _≤_, _<_};
 ghost use lib.ListN.{length};
-ghost use Rattle.numeral.specs.Numeral.{numeral};
+ghost use Rattle.numeral.specs.Numeral.{numeral, splice};
 ghost use Rattle.bits.specs.Bits.{fieldAt, Within};
 ghost use Rattle.bits.specs.Streams.{waiting, Streamed, Takes};
 
@@ -50,6 +50,14 @@ fn piece(bank: &[u8], at: usize, n: usize) -> u64
     low(x >> (8 - at % 8 - n), n)
 }
 
+// The number in the bits from bit `at` to the end of its byte.
+pub fn rest_of_byte(bank: &[u8], at: usize) -> u64
+    requires { ⌜ at / 8 < length (now bank) ⌝ }
+    ensures { λ r. ⌜ r ≡ fieldAt (now (bank .entry)) at (8 - at % 8) ⌝ }
+{
+    bank[at / 8] as u64 & (255 >> (at % 8))
+}
+
 // The number in the byte that begins at bit `at`.
 fn byte(bank: &[u8], at: usize) -> u64
     requires { ⌜ (at % 8 ≡ 0) × (at + 8 ≤ 8 * length (now bank)) ⌝ }
@@ -73,22 +81,32 @@ pub fn field(bank: &[u8], at: usize, width: usize) -> u64
     joined(v, width - done, piece(bank, at + done, width - done))
 }
 
+// Splits the number v into n digits of the base, and stores them from index `from` on, the last one first.
+pub fn split(out: &mut [u8], from: usize, n: usize, v: u64, base: u64)
+    requires { ⌜ (from + n ≤ length (now out)) × (0 < base) × (base ≤ 256) ⌝ }
+    ensures { λ _. ⌜ now (out .exit) ≡ splice (now (out .entry)) from (numeral base n v) ⌝ }
+{
+    let mut i = n;
+    let mut rest = v;
+    while 0 < i {
+        i -= 1;
+        out[from + i] = (rest % base) as u8;
+        rest = rest / base;
+    }
+}
+
 // Writes the `width` bits of v behind the stream s. Each byte that is full is stored, once, and the bits left over wait.
 pub fn push(out: &mut [u8], s: Stream, width: usize, v: u64) -> Stream
     requires { ⌜ Takes s width v (length (now out)) ⌝ }
     ensures { λ r. ⌜ Streamed (now (out .entry)) (s .at) (waiting s ++ numeral 2 width v) (now (out .exit)) r ⌝ }
 {
     let all = joined(s.bits, width, v);
-    let mut at = s.at;
-    let mut n = s.count + width;
-    while 8 <= n {
-        n -= 8;
-        out[at] = ((all >> n) % 256) as u8;
-        at += 1;
-    }
+    let count = (s.count + width) % 8;
+    let whole = (s.count + width) / 8;
+    split(out, s.at, whole, all >> count, 256);
     Stream {
-        at,
-        bits: low(all, n),
-        count: n,
+        at: s.at + whole,
+        bits: low(all, count),
+        count,
     }
 }

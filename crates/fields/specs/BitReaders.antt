@@ -1,5 +1,6 @@
 -- What the bit reader takes: the number in some bits of the code, and the code bit behind them.
-use Prim.Native.Nat.{ℕ, _+_, _-_, _*_, _≤_}
+use Prim.Native.Nat.{ℕ, _+_, _-_, _*_, _%_, _≤_}
+use mathlib.Core.Path.{_≡_}
 use mathlib.Core.List.{List}
 use lib.ListN.{length, take, drop}
 use denote.Ref.{RefT, now}
@@ -35,6 +36,7 @@ stepOf bank c width = record { value = codeField bank (c .0) width; at = behindO
 pub record AllLie (c end bytes : ℕ) : Type 0 where
   pub order : c ≤ end
   pub small : end ≤ 0x400
+  pub whole : end % 8 ≡ 0
   pub inside : 0x20 + end ≤ 0x10 + 8 * bytes
 
 abbrev pub codeBits : List ℕ → ℕ → ℕ → List ℕ

@@ -43,19 +43,20 @@ fn zeros_before(v: u64, width: usize) -> usize
     u64::leading_zeros(v) as usize + width - 64
 }
 
-// The first of the code bits from `from` on, and before `end`, that is 1; where none is, `end`. As many are read at once as a word holds.
+// The first of the code bits from `from` on, and before `end`, that is 1; where none is, `end`. Up to the end of a byte they are read at once, and a
+// code's words end with a byte.
 pub fn first_one(bank: &[u8], from: CodeBit, end: usize) -> CodeBit
     requires { ⌜ AllLie (from .0) end (length (now bank)) ⌝ }
     ensures { λ r. ⌜ r .0 ≡ firstOne (now (bank .entry)) (from .0) end ⌝ }
 {
     let mut at = from;
     while at.0 < end {
-        let width = bits::least(end - at.0, 64);
-        let next = step_at(bank, at, width);
-        if next.value != 0 {
-            return at.behind(zeros_before(next.value, width));
+        let width = 8 - at.0 % 8;
+        let value = bits::rest_of_byte(bank, at.address().index());
+        if value != 0 {
+            return at.behind(zeros_before(value, width));
         }
-        at = next.at;
+        at = at.behind(width);
     }
     at
 }

@@ -101,7 +101,7 @@ coded-spec =
     (λ c. let s = c .before .before .before .before .before .before .before .before .before .before in omega (arith, few-counted (now (s .args .bank)) _ (s .pre)))
     (λ c κs. search needs)
     (λ c. after (c .before) .zeros)
-    (λ c κs. let a = after (c .before) in record { order = a .inside; small = omega (arith, a .few); inside = omega (arith, a .long) })
+    (λ c κs. let a = after (c .before) in record { order = a .inside; small = omega (arith, a .few); whole = omega arith; inside = omega (arith, a .long) })
     (λ c κs. omega (arith, c .if2 .taken, after (z (c .before .before)) .few))
     (λ c. refuses (c .refused-at2 .ensures) refl (one-after (c .before .before .before) (c .before .if2 .taken)))
     (λ c. search needs)
