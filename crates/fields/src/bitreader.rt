@@ -50,13 +50,15 @@ pub fn first_one(bank: &[u8], from: CodeBit, end: usize) -> CodeBit
     ensures { λ r. ⌜ r .0 ≡ firstOne (now (bank .entry)) (from .0) end ⌝ }
 {
     let mut at = from;
+    let mut width = 8 - from.0 % 8;
     while at.0 < end {
-        let width = 8 - at.0 % 8;
         let value = bits::rest_of_byte(bank, at.address().index());
         if value != 0 {
             return at.behind(zeros_before(value, width));
         }
         at = at.behind(width);
+        // whole bytes from here on
+        width = 8;
     }
     at
 }

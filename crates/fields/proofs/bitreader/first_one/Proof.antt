@@ -1,4 +1,5 @@
--- The invariant: the first one of all bits is the first one of those from `at` on. The measure is what is left of them.
+-- The invariant: the first one of all bits is the first one of those from `at` on, of which `width` are in its byte. The measure is what is left of
+-- them.
 use Prim.Native.Nat.{ℕ, _+_, _-_, _*_, _%_, _^_, _≤_, _<_}
 use mathlib.Core.Path.{_≡_, refl, sym, ap, _∙_}
 use native.Mathlib.Omega.{arith}
@@ -17,15 +18,15 @@ use Rattle.fields.proofs.bitreader.first_one.Statement.{statement}
 use Rattle.fields.proofs.bitreader.first_one.Tie as tie
 
 abbrev Inv-loop : tie.InvT-loop
-Inv-loop bank end at₀ at = (at .0 ≤ end) × (firstOne bank (at₀ .0) end ≡ firstOne bank (at .0) end)
+Inv-loop bank end at₀ width₀ at width = (at .0 ≤ end) × (firstOne bank (at₀ .0) end ≡ firstOne bank (at .0) end) × (width ≡ 8 - at .0 % 8)
 
 abbrev μ-loop : tie.MeasureT-loop
-μ-loop bank end at₀ at = end - at .0
+μ-loop bank end at₀ width₀ at width = end - at .0
 
 -- where a byte is read, before its end and before that of all
 module _ (c : tie.After-index Inv-loop μ-loop) where
   abbrev at : CodeBit
-  at = c .before .before .before .before .before .loop .at
+  at = c .before .before .before .before .loop .at
 
   abbrev begin : tie.Start Inv-loop μ-loop
   begin = c .before .before .before .before .before .before .before
@@ -37,16 +38,16 @@ module _ (c : tie.After-index Inv-loop μ-loop) where
   end = begin .args .end
 
   abbrev width : ℕ
-  width = 8 - at .0 % 8
+  width = c .before .before .before .before .loop .width
 
   few : (at .0 + width ≤ end) × (0 < width) × (width ≤ 8)
-  few = omega (arith, begin .pre .whole, c .before .before .before .if1 .taken)
+  few = omega (arith, begin .pre .whole, c .before .before .before .before .loop .inv .2, c .before .before .if1 .taken)
 
   index-is : c .index .result ≡ 0x20 + at .0 - 0x10
   index-is = c .index .ensures ∙ ap (_- 0x10) (c .before .address .ensures)
 
   width-is : 8 - c .index .result % 8 ≡ width
-  width-is = omega (arith, index-is)
+  width-is = omega (arith, index-is, c .before .before .before .before .loop .inv .2)
 
 -- and its bits, once they are read
 module _ (c : tie.After-rest-of-byte Inv-loop μ-loop) where
@@ -65,7 +66,7 @@ module _ (c : tie.After-rest-of-byte Inv-loop μ-loop) where
   inside = begin byte .pre .inside
 
   so-far : firstOne (bank byte) (begin byte .args .from .0) (end byte) ≡ firstOne (bank byte) (at byte .0) (end byte)
-  so-far = byte .before .before .before .before .before .loop .inv .1
+  so-far = byte .before .before .before .before .loop .inv .1
 
 behind-requires : tie.Need-behind-requires Inv-loop μ-loop
 behind-requires c κs =
@@ -97,12 +98,12 @@ loop-again c =
     let b = byte p in
     let (l, _, _) = few b in
     let on = passes (bank b) (at b .0) (width b) (end b) l (inside p) (sym (value-is p) ∙ c .before .if2 .left) in
-    (omega (arith, next-is c, l), so-far p ∙ on ∙ ap (λ n. firstOne (bank b) n (end b)) (sym (next-is c)))
+    (omega (arith, next-is c, l), so-far p ∙ on ∙ ap (λ n. firstOne (bank b) n (end b)) (sym (next-is c)), omega (arith, next-is c, width-is b, index-is b))
 
 none : tie.Need-returns-2 Inv-loop μ-loop
 none c =
     let v = c .before .before .loop in
-    let x = c .before .before .before .before .args in
+    let x = c .before .before .before .before .before .args in
     let all : v .at .0 ≡ x .end = omega arith in
     all ∙ sym (v .inv .1 ∙ ap (λ n. firstOne (now (x .bank)) n (x .end)) all ∙ none-left (now (x .bank)) (x .end))
 
@@ -112,9 +113,9 @@ first-one-spec =
     (tie.spec
     Inv-loop
     μ-loop
-    (λ c. (c .before .pre .order, refl))
     (λ c. omega arith)
-    (λ c κs. let s = c .before .before .before .before .before in omega (arith, s .pre .small, c .before .before .before .loop .inv .0))
+    (λ c. (c .before .before .pre .order, refl, refl))
+    (λ c κs. let l = c .before .before in omega (arith, l .before .before .before .pre .small, l .loop .inv .0))
     (λ c κs. omega (arith, c .address .ensures))
     (λ c κs. omega (arith, index-is c, few c, begin c .pre .inside))
     (λ c κs. let p = c .before in (value-fits p, omega (arith, few (byte p))))
