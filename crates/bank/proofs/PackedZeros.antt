@@ -1,16 +1,17 @@
 -- Zeros in a stream, some after the other, up to byte n.
-use Prim.Native.Nat.{ℕ, zero, suc, _+_, _*_, _≤_, _<_}
+use Prim.Native.Nat.{ℕ, zero, suc, _+_, _-_, _*_, _/_, _%_, min, _≤_}
 use mathlib.Core.Path.{_≡_, refl, ap, _∙_}
 use mathlib.Core.List.{List, [], _∷_, _++_, append-assoc, append-nil}
 use native.Mathlib.Omega.{arith}
 use native.Mathlib.Numerals.{add-one}
-use lib.ListN.{length, replicate, length-append, length-replicate, replicate-append-replicate}
+use lib.ListN.{length, replicate, length-append, replicate-append-replicate}
 use lib.Pow.{pow-pos}
-use Rattle.numeral.specs.Numeral.{numeral}
-use Rattle.numeral.proofs.Values.{length-numeral}
+use Rattle.numeral.specs.Numeral.{numeral, splice}
+use Rattle.numeral.proofs.Values.{length-numeral, numeral-nil}
 use Rattle.bits.specs.declared.Stream.{Stream}
 use Rattle.bits.specs.Streams.{waiting, Streamed, Takes}
-use Rattle.bits.proofs.Streams.{counted, unstored, takes, continued}
+use Rattle.bits.proofs.Streams.{counted, kept, unstored, continued}
+use Rattle.bits.proofs.Pushes.{pushed}
 use Rattle.bank.specs.Writing.{ZerosFit, zerosTo}
 
 pub zeros-are : (n : ℕ) → numeral 2 n 0 ≡ replicate n 0
@@ -18,37 +19,58 @@ unfolding numeral
 zeros-are zero = refl
 zeros-are (suc n) = ap (_++ (0 ∷ [])) (zeros-are n) ∙ replicate-append-replicate n 1 0 ∙ ap (λ k. replicate k 0) (add-one n)
 
--- of as many in all fewer are left
-less : (a b k w all : ℕ) → a + k ≡ all → b + (k + w) ≡ all → 0 < w → b < a
-less a b k w all e f z = omega arith
-
--- k zeros stand behind the bits of s
-abbrev pub Begun : List ℕ → Stream → ℕ → List ℕ → Stream → Type 0
-Begun before s k after r = Streamed before (s .at) (waiting s ++ replicate k 0) after r
-
 module _ (before : List ℕ) (s : Stream) (n : ℕ) (h : ZerosFit s n (length before)) where
-  pub none-yet : Begun before s 0 before s
-  none-yet = rw append-nil (record { sound = h .sound; written = unstored before s (omega (arith, h .before, h .inside)) })
+  -- a stream that stands there
+  pub none-left : s .at ≡ n → Streamed before (s .at) (waiting s ++ replicate (zerosTo n s) 0) before s
+  none-left e =
+      let none : zerosTo n s ≡ 0 = omega arith in
+      rw (none, append-nil) (record { sound = h .sound; written = unstored before s (omega (arith, h .before, h .inside)) })
 
-  module _ (k : ℕ) (l : k ≤ zerosTo n s) {after : List ℕ} {r : Stream} (b : Begun before s k after r) where
-    stands : 8 * r .at + r .count ≡ 8 * s .at + s .count + k
-    stands = omega (arith, simp (length-append, length-numeral, length-replicate) at (counted (b .written)))
+  -- up to seven bytes, the first of them with the bits of s
+  abbrev bytes : ℕ
+  bytes = min (n - s .at) 7
 
-    -- as many are left as a stream that stands here has to byte n
-    pub left : zerosTo n r + k ≡ zerosTo n s
-    left = omega (arith, stands, h .before)
+  abbrev pub width : ℕ
+  width = 8 * bytes - s .count
 
-    -- the next w
-    module _ (w : ℕ) (m : w ≤ zerosTo n r) (narrow : w ≤ 56) where
-      pub takes-next : Takes r w 0 (length after)
-      takes-next = takes b w 0 (omega arith) (pow-pos w) (simp (length-append, length-numeral, length-replicate) (omega (arith, left, h .before, h .inside)))
+  pub takes-some : Takes s width 0 (length before)
+  takes-some = record {
+    sound = h .sound;
+    narrow = omega arith;
+    small = pow-pos width;
+    room = omega (arith, h .before, h .inside, h .sound .few);
+  }
 
-      pub some-more : {after′ : List ℕ} {r′ : Stream} → Streamed after (r .at) (waiting r ++ numeral 2 w 0) after′ r′ → Begun before s (k + w) after′ r′
-      some-more u = rw (← replicate-append-replicate {A = ℕ} k w 0, ← zeros-are w, ← append-assoc) (continued b (numeral 2 w 0) u)
+  module _ {after : List ℕ} {r : Stream} (u : Streamed before (s .at) (waiting s ++ numeral 2 width 0) after r) where
+    stands : 8 * r .at + r .count ≡ 8 * s .at + 8 * bytes
+    stands = omega (arith, h .before, h .sound .few, simp (length-append, length-numeral) at (counted (u .written)))
 
-    -- behind w more, fewer are left
-    pub fewer : (w : ℕ) → 0 < w → k + w ≤ zerosTo n s → {after′ : List ℕ} {r′ : Stream} → Begun before s (k + w) after′ r′ → zerosTo n r′ < zerosTo n r
-    fewer w z m u = less (zerosTo n r) _ k w (zerosTo n s) left (omega (arith, simp (length-append, length-numeral, length-replicate) at (counted (u .written)), h .before)) z
+    -- no bits wait any more
+    none : r .count ≡ 0
+    none = omega (arith, stands, u .sound .few)
 
-    pub all-there : n ≤ r .at → k ≡ zerosTo n s
-    all-there o = omega (arith, stands, h .before)
+    pub before-end : r .at ≤ n
+    before-end = omega (arith, stands, none, h .before)
+
+    pub inside : r .at + (n - r .at) ≤ length after
+    inside = omega (arith, before-end, h .inside, kept (u .written))
+
+    rest : width + 8 * (n - r .at) ≡ zerosTo n s
+    rest = omega (arith, stands, none, h .before, h .sound .few)
+
+    zeros : (waiting s ++ numeral 2 width 0) ++ numeral 2 (8 * (n - r .at)) 0 ≡ waiting s ++ replicate (zerosTo n s) 0
+    zeros =
+        append-assoc (waiting s) (numeral 2 width 0) (numeral 2 (8 * (n - r .at)) 0)
+        ∙ rw (zeros-are, zeros-are (8 * (n - r .at)), replicate-append-replicate {A = ℕ} width (8 * (n - r .at)) 0, rest)
+
+    -- and whole bytes to byte n
+    pub all-there : {after′ : List ℕ} → after′ ≡ splice after (r .at) (numeral 256 (n - r .at) 0)
+        → Streamed before (s .at) (waiting s ++ replicate (zerosTo n s) 0) after′ (record { at = n; bits = 0; count = 0 })
+    all-there e =
+        let m : ℕ = n - r .at in
+        let whole : 8 * m / 8 ≡ m = omega arith in
+        let even : 8 * m % 8 ≡ 0 = omega arith in
+        let place : r .at + m ≡ n = omega (arith, before-end) in
+        let p : Streamed after (r .at) (numeral 2 (8 * m) 0) (splice after (r .at) (numeral 256 m 0)) (record { at = n; bits = 0; count = 0 })
+        = rw (even, whole, place) at (pushed after (r .at) 0 (8 * m) (rw whole inside)) in
+        rw (← zeros, e) (continued u (numeral 2 (8 * m) 0) (rw (none, numeral-nil) p))

@@ -153,17 +153,22 @@ fn put_parts(out: &mut [u8], words: usize, outline: Outline, tag: Record) -> Str
     }
 }
 
-// Zeros up to byte n: the fill, table B's 24, and the words that the scheme doesn't need. 56 bits go at once, whole bytes but for the first.
+// Zeros up to byte n: the fill, table B's 24, and the words that the scheme doesn't need. Up to seven bytes go behind the bits that wait, which
+// is all that a scheme's own words have; the rest are whole bytes.
 fn put_zeros(out: &mut [u8], s: Stream, n: usize) -> Stream
     requires { ⌜ ZerosFit s n (length (now out)) ⌝ }
     ensures { λ r. ⌜ Streamed (now (out .entry)) (s .at) (waiting s ++ replicate (zerosTo n s) 0) (now (out .exit)) r ⌝ }
 {
-    let mut end = s;
-    while end.at < n {
-        let left = 8 * (n - end.at) - end.count;
-        end = bits::push(out, end, bits::least(left, 56), 0);
+    if s.at == n {
+        return s;
     }
-    end
+    let next = bits::push(out, s, 8 * bits::least(n - s.at, 7) - s.count, 0);
+    bits::split(out, next.at, n - next.at, 0, 256);
+    Stream {
+        at: n,
+        bits: 0,
+        count: 0,
+    }
 }
 
 // Writes the bank of the tag in so many words from the output's start on, and returns its length.
