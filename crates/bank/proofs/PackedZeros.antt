@@ -1,4 +1,4 @@
--- Zeros in a stream, some after the other, up to byte n.
+-- Zeros behind the bits of a stream, up to byte n: none, or a push of up to seven bytes and then whole bytes.
 use Prim.Native.Nat.{ℕ, zero, suc, _+_, _-_, _*_, _/_, _%_, min, _≤_}
 use mathlib.Core.Path.{_≡_, refl, ap, _∙_}
 use mathlib.Core.List.{List, [], _∷_, _++_, append-assoc, append-nil}
@@ -63,14 +63,15 @@ module _ (before : List ℕ) (s : Stream) (n : ℕ) (h : ZerosFit s n (length be
         append-assoc (waiting s) (numeral 2 width 0) (numeral 2 (8 * (n - r .at)) 0)
         ∙ rw (zeros-are, zeros-are (8 * (n - r .at)), replicate-append-replicate {A = ℕ} width (8 * (n - r .at)) 0, rest)
 
-    -- and whole bytes to byte n
-    pub all-there : {after′ : List ℕ} → after′ ≡ splice after (r .at) (numeral 256 (n - r .at) 0)
-        → Streamed before (s .at) (waiting s ++ replicate (zerosTo n s) 0) after′ (record { at = n; bits = 0; count = 0 })
-    all-there e =
+    -- the bytes from there to byte n
+    whole-bytes : Streamed after (r .at) (numeral 2 (8 * (n - r .at)) 0) (splice after (r .at) (numeral 256 (n - r .at) 0)) (record { at = n; bits = 0; count = 0 })
+    whole-bytes =
         let m : ℕ = n - r .at in
         let whole : 8 * m / 8 ≡ m = omega arith in
         let even : 8 * m % 8 ≡ 0 = omega arith in
         let place : r .at + m ≡ n = omega (arith, before-end) in
-        let p : Streamed after (r .at) (numeral 2 (8 * m) 0) (splice after (r .at) (numeral 256 m 0)) (record { at = n; bits = 0; count = 0 })
-        = rw (even, whole, place) at (pushed after (r .at) 0 (8 * m) (rw whole inside)) in
-        rw (← zeros, e) (continued u (numeral 2 (8 * m) 0) (rw (none, numeral-nil) p))
+        rw (even, whole, place) at (pushed after (r .at) 0 (8 * m) (rw whole inside))
+
+    pub all-there : {after′ : List ℕ} → after′ ≡ splice after (r .at) (numeral 256 (n - r .at) 0)
+        → Streamed before (s .at) (waiting s ++ replicate (zerosTo n s) 0) after′ (record { at = n; bits = 0; count = 0 })
+    all-there e = rw (← zeros, e) (continued u (numeral 2 (8 * (n - r .at)) 0) (rw (none, numeral-nil) whole-bytes))

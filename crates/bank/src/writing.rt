@@ -153,8 +153,8 @@ fn put_parts(out: &mut [u8], words: usize, outline: Outline, tag: Record) -> Str
     }
 }
 
-// Zeros up to byte n: the fill, table B's 24, and the words that the scheme doesn't need. Up to seven bytes go behind the bits that wait, which
-// is all that a scheme's own words have; the rest are whole bytes.
+// Zeros up to byte n: the fill, table B's 24, and the words that the scheme doesn't need. One push writes up to seven bytes of them, more than a
+// scheme's own words have; those left are whole bytes.
 fn put_zeros(out: &mut [u8], s: Stream, n: usize) -> Stream
     requires { ⌜ ZerosFit s n (length (now out)) ⌝ }
     ensures { λ r. ⌜ Streamed (now (out .entry)) (s .at) (waiting s ++ replicate (zerosTo n s) 0) (now (out .exit)) r ⌝ }

@@ -1,4 +1,4 @@
--- The steps of `push`: the new bits join those that wait, byte after byte is stored, and the number left keeps only the bits that wait.
+-- What `push` does: the new bits join those that wait in one number. Its whole bytes are stored, and its last bits wait.
 use mathlib.Core.Path.{_≡_, refl, sym, _∙_}
 use Prim.Native.Nat.{ℕ, _+_, _*_, _/_, _%_, _^_, _≤_, _<_}
 use native.Mathlib.Omega.{arith}

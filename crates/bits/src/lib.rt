@@ -1,4 +1,5 @@
-// Fields of bits in a slice of bytes, most significant bit first: read at any place, and written one after the other.
+// Fields of bits in a slice of bytes, most significant bit first: read at any place, and written one after the other. A number's digits in any
+// base, stored one to a byte.
 ghost use mathlib.Core.Path.{_≡_};
 ghost use mathlib.Core.List.{_++_};
 ghost use Prim.Native.Nat.{_+_, _-_, _*_, _/_, _%_, _^_, min, _≤_, _<_};

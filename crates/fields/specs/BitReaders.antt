@@ -32,7 +32,8 @@ codeField bank c width = at bank (0x20 + c) width
 abbrev pub stepOf : List ℕ → CodeBit → ℕ → Step
 stepOf bank c width = record { value = codeField bank (c .0) width; at = behindOf c width }
 
--- the bits of the code from c on and before the end lie in so many bytes of a bank
+-- the bits of the code from c on and before the end, which is a byte's end, lie in so many bytes of a bank; the end is bounded so that no sum of
+-- places overflows
 pub record AllLie (c end bytes : ℕ) : Type 0 where
   pub order : c ≤ end
   pub small : end ≤ 0x400

@@ -72,7 +72,7 @@ behind-requires : tie.Need-behind-requires Inv-loop μ-loop
 behind-requires c κs =
     let p = c .before .before in
     let (l, _, narrow) = few (byte p) in
-    omega (arith, l, begin (byte p) .pre .small, c .zeros-before .ensures, zeros-within (p .rest-of-byte .result) (width (byte p)) (value-fits p) (omega arith))
+    omega (arith, l, begin (byte p) .pre .small, c .zeros-before .ensures, zeros-within (p .rest-of-byte .result) (width (byte p)) (value-fits p) (omega (arith, narrow)))
 
 found : tie.Need-returns Inv-loop μ-loop
 found c =
@@ -81,7 +81,7 @@ found c =
     let b = byte p in
     let (l, _, narrow) = few b in
     let place : z .zeros-before .result ≡ length (upto 1 (binary (width b) (codeField (bank b) (at b .0) (width b)))) = z .zeros-before .ensures ∙ ap (λ v. length (upto 1 (binary (width b) v))) (value-is p) in
-    let one = stops (bank b) (at b .0) (width b) (end b) l (inside p) (omega arith) (λ e. z .before .if2 .taken (value-is p ∙ e)) in
+    let one = stops (bank b) (at b .0) (width b) (end b) l (inside p) (omega (arith, narrow)) (λ e. z .before .if2 .taken (value-is p ∙ e)) in
     omega (arith, ap (λ b. b .0) (c .behind .ensures), place, one, so-far p)
 
 -- they are zeros

@@ -90,7 +90,7 @@ alone c =
     let t = body .body2 .given .0 .0 in
     let narrow = rw (body .body2 .given .1) at (s .pre .1) in
     rw (body .body2 .given .1, sym (n .reference-digits2 .ensures .0))
-    (c .reference-alone .ensures ∙ ap (referenceAlone (s .args .head)) (row-alone t (x .at) (cell t (rowOf (x .head .digits)) .0) (n .reference-digits2 .result) (drop (x .at) (x .text .now)) (narrow)))
+    (c .reference-alone .ensures ∙ ap (referenceAlone (s .args .head)) (row-alone t (x .at) (cell t (rowOf (x .head .digits)) .0) (n .reference-digits2 .result) (drop (x .at) (x .text .now)) narrow))
 
 -- the reference of table E
 row : (c : tie.After-by-digits) → c .by-digits .result < 7
