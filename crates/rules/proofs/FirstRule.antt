@@ -12,7 +12,7 @@ use Rattle.rules.proofs.TextReads.{tag-reads}
 use Rattle.rules.proofs.BankReads.{bank-reads}
 use Rattle.rules.proofs.OnePlace.{one-place-of-text, one-place-of-bank}
 
-exactly : {X : Type 0} (rs : List Rule) (Right : X → Type 0) (a : Answer X) → OnePlace rs → Reads rs Right a → (n p : ℕ) → ((numberOf a ≡ n) × (placeOf a ≡ p)) ↔ First rs n p
+pub exactly : {X : Type 0} (rs : List Rule) (Right : X → Type 0) (a : Answer X) → OnePlace rs → Reads rs Right a → (n p : ℕ) → ((numberOf a ≡ n) × (placeOf a ≡ p)) ↔ First rs n p
 exactly rs Right a o h n p = let f = first-of rs Right a h in (λ e. rw (← e .0, ← e .1) f, λ k. one-first rs o (numberOf a) (placeOf a) n p f k)
 
 pub first-rule-of-text : (t : List ℕ) (n p : ℕ) → ((textNumber t ≡ n) × (textPlace t ≡ p)) ↔ First (textRules t) n p

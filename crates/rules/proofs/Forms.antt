@@ -48,13 +48,13 @@ symbols-at f x p s = rw (s .1) (symbols-of f p (s .0))
 pub one-reading : (f : Form) (x p q : List ℕ) → Symbols f x p → Symbols f x q → p ≡ q
 one-reading f x p q s r = cc (symbols-at f x p s, symbols-at f x q r)
 
-whole-of : (p : List ℕ) → T (plainNumber p) → Whole p
+pub whole-of : (p : List ℕ) → T (plainNumber p) → Whole p
 whole-of [] h = absurd h
 whole-of (zero ∷ []) h = zero-alone
 whole-of (suc d ∷ []) h = leading {d = suc d} (omega arith)
 whole-of (d ∷ e ∷ ds) h = leading (ltb→lt 0 d h)
 
-whole-is : {p : List ℕ} → Whole p → T (plainNumber p)
+pub whole-is : {p : List ℕ} → Whole p → T (plainNumber p)
 whole-is zero-alone = tt
 whole-is (leading {d = d} {ds = []} h) = tt
 whole-is (leading {d = d} {ds = e ∷ ds} h) = lt→ltb 0 d h

@@ -25,11 +25,11 @@ use Rattle.rules.proofs.OnePlace.{fixed, one-place-of-asked, one-place-
 use Rattle.rules.proofs.Lengths.{text-length, bank-size, raw-length}
 
 -- W and what is written are right, and there is room for it
-abbrev Fitting : (ℕ → List ℕ → Type 0) → List ℕ → Output → Type 0
+abbrev pub Fitting : (ℕ → List ℕ → Type 0) → List ℕ → Output → Type 0
 Fitting Right out o = Right (o .0) (o .1) × (length (o .1) ≤ length out)
 
 -- no second W and no second output are right
-abbrev One : (ℕ → List ℕ → Type 0) → Type 0
+abbrev pub One : (ℕ → List ℕ → Type 0) → Type 0
 One Right = (m n : ℕ) (v w : List ℕ) → Right m v → Right n w → (m ≡ n) × (v ≡ w)
 
 same-call : (c d : Call) → c .number ≡ d .number → c .place ≡ d .place → c .words ≡ d .words → c .written ≡ d .written → c .output ≡ d .output → c ≡ d
@@ -62,19 +62,19 @@ module _ (rs : List Rule) (places : OnePlace rs) (Right : ℕ → List ℕ → T
           same-call c d n (both .1) (cW ∙ sym dW) (cw ∙ sym dw) (co ∙ sym do′)
 
   -- the answer that keeps the promise, and no other
-  the-answer : (a : Answer Output) → One Right → Reads rs (Fitting Right out) a → (c : Call) → Promised rs Right out c ↔ (c ≡ call out a)
+  pub the-answer : (a : Answer Output) → One Right → Reads rs (Fitting Right out) a → (c : Call) → Promised rs Right out c ↔ (c ≡ call out a)
   the-answer a unique h c = (λ p. one-call c (call out a) unique p (keeps a h), λ e. rw e (keeps a h))
 
 -- what is written leaves the output as long as it was
-same-length : (rs : List Rule) (Right : ℕ → List ℕ → Type 0) (out : List ℕ) (a : Answer Output) → Reads rs (Fitting Right out) a → length (call out a .output) ≡ length out
+pub same-length : (rs : List Rule) (Right : ℕ → List ℕ → Type 0) (out : List ℕ) (a : Answer Output) → Reads rs (Fitting Right out) a → length (call out a .output) ≡ length out
 same-length rs Right out (refused n p) h = refl
 same-length rs Right out (taken (W, w)) h = rw (length-append, length-drop) (omega (arith, h .1 .1))
 
 -- rule 1, then the call's own
-lent-places : (room : ℕ) (rs : List Rule) (out : List ℕ) → OnePlace rs → OnePlace (Short room out ∷ rs)
+pub lent-places : (room : ℕ) (rs : List Rule) (out : List ℕ) → OnePlace rs → OnePlace (Short room out ∷ rs)
 lent-places room rs out o = (fixed 0, o)
 
-lent-reads : (room : ℕ) (rs : List Rule) (Right : ℕ → List ℕ → Type 0) (out : List ℕ) (a : Answer Output) → (room ≤ length out → Reads rs (Fitting Right out) a)
+pub lent-reads : (room : ℕ) (rs : List Rule) (Right : ℕ → List ℕ → Type 0) (out : List ℕ) (a : Answer Output) → (room ≤ length out → Reads rs (Fitting Right out) a)
     → Reads (Short room out ∷ rs) (Fitting Right out) (lent room out a)
 lent-reads room rs Right out a h =
     check rs (Fitting Right out) 1 (length out < room) (_≡ 0) (T (leb room (length out))) (demand (leb room (length out)) 1 0) a (lit< tt)

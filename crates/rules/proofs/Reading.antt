@@ -130,7 +130,7 @@ module _ (w : List ℕ) where
   body-reads E n i x b = covered (extra (λ e. e) (stays (stays done))) (ends last (integer (assetBits (rowOf n))) i x b)
 
 -- A filter is an integer of three bits.
-one-digit : {ds : List ℕ} → Whole ds → value 10 ds < 8 → (d : ℕ) × (d < 8) × (ds ≡ d ∷ [])
+pub one-digit : {ds : List ℕ} → Whole ds → value 10 ds < 8 → (d : ℕ) × (d < 8) × (ds ≡ d ∷ [])
 unfolding value
 one-digit zero-alone h = (0, lit< tt, refl)
 one-digit (leading {d = d} {ds = []} k) h = (d, omega arith, refl)

@@ -105,7 +105,7 @@ no-name : (v : List ℕ) → named schemes (bracket ∷ v) ≡ none
 unfolding schemes
 no-name v = refl
 
-label-shut : (s : Scheme) (v : List ℕ) → ¬ (Starts bracket (label s ++ v))
+pub label-shut : (s : Scheme) (v : List ℕ) → ¬ (Starts bracket (label s ++ v))
 label-shut s v (w, e) = let z : _≡_ {A = ℕ} 0 1 = cc (no-name w, named-of s v, ap (named schemes) e) in omega arith
 
 -- The whole text.
