@@ -15,9 +15,10 @@ use Rattle.identities.specs.declared.Family.the-variants.{Sgtin, Sscc, S
 use Rattle.identities.specs.Families.{familyOf, short, long, mostFilter}
 use Rattle.identities.specs.Grammar.{Identity, joined, start, label, identityText, IdentityText}
 use Rattle.identities.specs.OfTags.{identityOf, filterOf}
-use Rattle.identities.specs.Numbers.{tagText, heldBy, or-else, and-then, chosen}
+use Rattle.identities.specs.Numbers.{bodyIn, tagText, heldBy, or-else, and-then, chosen}
 use Rattle.identities.specs.Conditions.{Holds}
 use Rattle.identities.specs.Promises.{In96, Given}
+use Rattle.identities.proofs.Divisions.{body-of}
 use Rattle.identities.proofs.IdentityTexts.{one-identity}
 use Rattle.identities.proofs.Held.{identity-fits, tag-text, Held, held-is, held-split, held-of}
 
@@ -155,6 +156,23 @@ module _ (f : ℕ) (t : List ℕ) (ι : Identity) (r : IdentityText t ι) (least
 
   pub chosen-decides : Decides (¬ ((τ : Tag) × Holds t τ)) (Given f t) (chosen f (ι .family) (joined (ι .parts)))
   chosen-decides = decides (heldBy f (joined (ι .parts)) (short (ι .family))) refl (long (ι .family)) refl (long-is (ι .family))
+
+-- What is chosen behind a family's name is of the grammar, whatever was read there before: its parts are those of the tag's identity.
+pub chosen-formed : (f : ℕ) (g : Family) (x : List ℕ) (τ : Tag) → f ≤ mostFilter g → chosen f g x ≡ some τ → (bodyIn g x ≡ some (identityOf τ .parts)) × (joined (identityOf τ .parts) ≡ x)
+chosen-formed f g x τ least e = go (heldBy f x (short g)) refl (long g) (long-is g) e
+  where
+    formed : (s : Scheme) → familyOf s ≡ g → heldBy f x s ≡ some τ → (bodyIn g x ≡ some (identityOf τ .parts)) × (joined (identityOf τ .parts) ≡ x)
+    formed s k e =
+        let h = held-is f x s τ e in
+        let (_, b) = held-split f x s τ (rw k least) h in
+        let same : identityOf τ .family ≡ g = family-is τ ∙ ap familyOf (h .scheme) ∙ k in
+        (ap (λ h. bodyIn h x) (sym same) ∙ ap (bodyIn (identityOf τ .family)) (sym b) ∙ body-of (identityOf τ) (identity-fits τ (h .fits)), b)
+
+    go : (o : Option Tag) → heldBy f x (short g) ≡ o → (l : Option Scheme) → Gives (LongIs g) l → or-else o (and-then l (heldBy f x)) ≡ some τ
+        → (bodyIn g x ≡ some (identityOf τ .parts)) × (joined (identityOf τ .parts) ≡ x)
+    go (some σ) k l h e = formed (short g) (short-is g .0) (k ∙ e)
+    go none k none h e = let z : _≡_ {A = ℕ} 0 1 = cc in absurd (omega arith)
+    go none k (some s) h e = formed s (h .0) e
 
 -- No second tag is given.
 one-scheme : (s s′ : Scheme) → familyOf s ≡ familyOf s′ → (Bits s ≡ 96 → Bits s′ ≡ 96) → (Bits s′ ≡ 96 → Bits s ≡ 96) → Placed s → Placed s′ → s ≡ s′

@@ -36,7 +36,7 @@ over-limit f Gid h = inr (λ e. omega arith, refl)
 over-limit f Sgcn h = inl h
 over-limit f Cpi h = inl h
 
-most-7 : (g : Family) → mostFilter g ≤ 7
+pub most-7 : (g : Family) → mostFilter g ≤ 7
 most-7 Sgtin = omega arith
 most-7 Sscc = omega arith
 most-7 Sgln = omega arith

@@ -41,7 +41,7 @@ labels Gdti113 = omega arith
 labels Sgcn96 = omega arith
 labels Cpi96 = omega arith
 
-filter-length : (q : Parts) (f : ℕ) → length (filterText q f) ≤ 2
+pub filter-length : (q : Parts) (f : ℕ) → length (filterText q f) ≤ 2
 filter-length (F body) f = omega arith
 filter-length (Integers a b c) f = omega arith
 

@@ -31,7 +31,7 @@ fn put_byte(out: &mut [u8], at: usize, b: u8) -> usize
 }
 
 // A scheme's name and the colon: 10 bytes at most.
-fn put_label(out: &mut [u8], at: usize, s: Scheme) -> usize
+pub fn put_label(out: &mut [u8], at: usize, s: Scheme) -> usize
     requires { ⌜ at + 10 ≤ length (now out) ⌝ }
     ensures { λ r. ⌜ Puts (label s) at (now (out .entry)) r (now (out .exit)) ⌝ }
 {

@@ -1,0 +1,8 @@
+-- What the proofs of the two calls rest on.
+pub mod Names
+pub mod Components
+pub mod PartTexts
+pub mod Divided
+pub mod TagLines
+pub mod Answered
+pub mod OneAnswer

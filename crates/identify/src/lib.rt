@@ -1,0 +1,87 @@
+// The two calls of document 02, C-16: a tag text to the text of its pure identity, and an identity with a filter to a tag text. Any text and any
+// filter may come in: none has a condition, and each fixes its answer and every byte of the lent output. All is read before anything is
+// written. W plays no part, and is 0 in every answer.
+mod families;
+mod form;
+mod tags;
+
+use codec::Answer;
+use codec::TEXT_ROOM;
+use digits::put_bytes;
+use families::Named;
+use identities::Family;
+use scheme::refusal::OUTPUT_TOO_SHORT;
+ghost use mathlib.Core.Path.{_≡_};
+ghost use Prim.Native.Nat.{_≤_};
+ghost use lib.ListN.{length};
+ghost use Rattle.rules.specs.Calls.{textRoom};
+ghost use Rattle.codec.specs.Answers.{answered};
+ghost use Rattle.identities.specs.Calls.{tagToIdentity, identityToTag};
+ghost use Rattle.identify.specs.Words.{numberOr, ofFamily};
+
+// The numbers of an identity, by name (document 02, C-16).
+pub const NOT_AN_IDENTITY: u8 = 23;
+
+pub const FILTER_TOO_LARGE: u8 = 24;
+
+pub const NO_SCHEME: u8 = 25;
+
+// A tag text to the text of its identity: number 1, then those of the text, 2 to 8 with 20. Control fields and filter are dropped; what stands
+// behind them is copied.
+pub fn tag_to_identity(text: &[u8], out: &mut [u8]) -> Answer
+    ensures { λ r. ⌜ answered r (now (out .exit)) ≡ tagToIdentity (now (text .entry)) (now (out .entry)) ⌝ }
+{
+    if out.len() < TEXT_ROOM {
+        return Answer::Refused(OUTPUT_TOO_SHORT, 0);
+    }
+    let reading = text::reading::read(text);
+    let number = reading.number;
+    if number != 0 {
+        return Answer::Refused(number, reading.place);
+    }
+    let tag = reading.tag;
+    let s = tag.scheme;
+    let control = tag.control;
+    let behind = tags::body_at(control, s);
+    let at = families::put_start(out, families::family_of(s));
+    Answer::Written(put_bytes(out, at, &text[behind..]), 0)
+}
+
+// 23 where the text behind a family's name is not of its grammar; else the number that applies then.
+fn number_or(body: &[u8], family: Family, number: u8) -> u8
+    ensures { λ r. ⌜ r ≡ numberOr family (now (body .entry)) number ⌝ }
+{
+    if form::is_body(body, family) {
+        return number;
+    }
+    NOT_AN_IDENTITY
+}
+
+// The text behind a family's name, and a filter, to a tag text: what the codec takes is of the grammar, so that is looked at only where a number is
+// to be given.
+fn of_family(body: &[u8], family: Family, filter: u32, out: &mut [u8]) -> Answer
+    requires { ⌜ textRoom ≤ length (now out) ⌝ }
+    ensures { λ r. ⌜ answered r (now (out .exit)) ≡ ofFamily family filter (now (body .entry)) (now (out .entry)) ⌝ }
+{
+    if families::most_filter(family) < filter {
+        return Answer::Refused(number_or(body, family, FILTER_TOO_LARGE), 0);
+    }
+    let n = tags::put_chosen(body, family, filter, out);
+    if n == 0 {
+        return Answer::Refused(number_or(body, family, NO_SCHEME), 0);
+    }
+    Answer::Written(n, 0)
+}
+
+// An identity and a filter to a tag text: numbers 1, 23, 24 and 25. The scheme is the 96-bit one if it holds the identity, else the long one.
+pub fn identity_to_tag(text: &[u8], filter: u32, out: &mut [u8]) -> Answer
+    ensures { λ r. ⌜ answered r (now (out .exit)) ≡ identityToTag filter (now (text .entry)) (now (out .entry)) ⌝ }
+{
+    if out.len() < TEXT_ROOM {
+        return Answer::Refused(OUTPUT_TOO_SHORT, 0);
+    }
+    match families::family_in(text) {
+        Named::Is(family, at) => of_family(&text[at..], family, filter, out),
+        Named::Unlisted => Answer::Refused(NOT_AN_IDENTITY, 0),
+    }
+}

@@ -1,0 +1,142 @@
+// The tag texts of an identity: a scheme holds it if the codec takes the text that its tag would have.
+use super::families::LongScheme;
+use super::families::long;
+use super::families::short;
+use codec::TEXT_ROOM;
+use digits::put_bytes;
+use identities::Family;
+use rules::ControlFields;
+use rules::Parts;
+use rules::Scheme;
+use scheme::outlines::about;
+ghost use mathlib.Core.Path.{_≡_};
+ghost use Prim.Native.Nat.{_+_, _≤_};
+ghost use lib.ListN.{length};
+ghost use Rattle.rules.specs.Schemes.{about as aboutOf};
+ghost use Rattle.rules.specs.ControlFields.{controlText, ControlFits};
+ghost use Rattle.rules.specs.Grammar.{label};
+ghost use Rattle.rules.specs.Calls.{textRoom};
+ghost use Rattle.digits.specs.Pieces.{Puts};
+ghost use Rattle.identities.specs.Numbers.{filterText, tagText, heldBy, chosen};
+ghost use Rattle.identify.specs.Words.{bodyAt, PutIf};
+
+// How many characters `urn:epc:tag:` has, and the longest tag text.
+const START: usize = 12;
+
+const MOST_TEXT: usize = 116;
+
+// How many characters control fields have, with the colon behind the last.
+fn control_length(control: ControlFields) -> usize
+    requires { ⌜ ControlFits control ⌝ }
+    ensures { λ r. ⌜ r ≡ length (controlText control) ⌝ }
+{
+    if control.umi == 0 {
+        if control.att == 0 {
+            return 0;
+        }
+        return 10;
+    }
+    if control.att == 0 {
+        return 8;
+    }
+    17
+}
+
+// How many characters a scheme's name and the colon have.
+fn label_length(s: Scheme) -> usize
+    ensures { λ r. ⌜ r ≡ length (label s) ⌝ }
+{
+    match s {
+        Scheme::Sgtin96 => 9,
+        Scheme::Sgtin198 => 10,
+        Scheme::Sscc96 => 8,
+        Scheme::Sgln96 => 8,
+        Scheme::Sgln195 => 9,
+        Scheme::Grai96 => 8,
+        Scheme::Grai170 => 9,
+        Scheme::Giai96 => 8,
+        Scheme::Gsrn96 => 8,
+        Scheme::Gsrnp96 => 9,
+        Scheme::Gdti96 => 8,
+        Scheme::Gdti174 => 9,
+        Scheme::Gid96 => 7,
+        Scheme::Gdti113 => 9,
+        Scheme::Sgcn96 => 8,
+        Scheme::Cpi96 => 7,
+    }
+}
+
+// How many characters the filter and its dot have.
+fn filter_length(s: Scheme) -> usize
+    ensures { λ r. ⌜ r ≡ length (filterText (aboutOf s .parts) 0) ⌝ }
+{
+    let parts = about(s).parts;
+    match parts {
+        Parts::F(_) => 2,
+        Parts::Integers(_, _, _) => 0,
+    }
+}
+
+// Where the identity's parts begin in a tag text: behind the control fields, the scheme's name and the filter.
+pub fn body_at(control: ControlFields, s: Scheme) -> usize
+    requires { ⌜ ControlFits control ⌝ }
+    ensures { λ r. ⌜ r ≡ bodyAt control s ⌝ }
+{
+    START + control_length(control) + label_length(s) + filter_length(s)
+}
+
+// Writes the filter and its dot from index `at` on, if the scheme has one, and returns the index after them.
+fn put_filter(out: &mut [u8], at: usize, s: Scheme, filter: u32) -> usize
+    requires { ⌜ (filter ≤ 7) × (at + 2 ≤ length (now out)) ⌝ }
+    ensures { λ r. ⌜ Puts (filterText (aboutOf s .parts) filter) at (now (out .entry)) r (now (out .exit)) ⌝ }
+{
+    let parts = about(s).parts;
+    match parts {
+        Parts::F(_) => put_bytes(out, at, &[b'0' + filter as u8, b'.']),
+        Parts::Integers(_, _, _) => at,
+    }
+}
+
+// Writes the text of a scheme's tag with a filter and the parts of an identity from the output's start on, and returns its length.
+fn put_text(out: &mut [u8], body: &[u8], s: Scheme, filter: u32) -> usize
+    requires { ⌜ (filter ≤ 7) × (24 + length (now body) ≤ length (now out)) ⌝ }
+    ensures { λ r. ⌜ Puts (tagText filter (now (body .entry)) s) 0 (now (out .entry)) r (now (out .exit)) ⌝ }
+{
+    let name = put_bytes(out, 0, b"urn:epc:tag:");
+    let at = text::writing::put_label(out, name, s);
+    let parts = put_filter(out, at, s, filter);
+    put_bytes(out, parts, body)
+}
+
+// Writes that text if the codec takes it, and returns its length; if not, 0, and the output is as it was. It is made in a line of its own first, and
+// only if it is no longer than a tag text can be.
+fn put_held(body: &[u8], s: Scheme, filter: u32, out: &mut [u8]) -> usize
+    requires { ⌜ (filter ≤ 7) × (textRoom ≤ length (now out)) ⌝ }
+    ensures { λ r. ⌜ PutIf (heldBy filter (now (body .entry)) s) (now (out .entry)) r (now (out .exit)) ⌝ }
+{
+    if MOST_TEXT < body.len() {
+        return 0;
+    }
+    let mut line = [0u8; TEXT_ROOM];
+    let n = put_text(&mut line, body, s, filter);
+    let reading = text::reading::read(&line[..n]);
+    if reading.number != 0 {
+        return 0;
+    }
+    put_bytes(out, 0, &line[..n])
+}
+
+// The same for the scheme that is chosen: the 96-bit one if it holds the identity, else the long one.
+pub fn put_chosen(body: &[u8], family: Family, filter: u32, out: &mut [u8]) -> usize
+    requires { ⌜ (filter ≤ 7) × (textRoom ≤ length (now out)) ⌝ }
+    ensures { λ r. ⌜ PutIf (chosen filter family (now (body .entry))) (now (out .entry)) r (now (out .exit)) ⌝ }
+{
+    let n = put_held(body, short(family), filter, out);
+    if n != 0 {
+        return n;
+    }
+    match long(family) {
+        LongScheme::Is(s) => put_held(body, s, filter, out),
+        LongScheme::Nothing => 0,
+    }
+}
