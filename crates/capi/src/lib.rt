@@ -1,7 +1,8 @@
-// The four public calls for other languages (include/tagcodec.h). A lent slice is a pointer and a length, an answer four numbers. No call
+// The public calls for other languages (include/tagcodec.h): the codec's four, and the two of pure identity. A lent slice is a pointer and a length, an answer four numbers. No call
 // has a condition; what C itself owes of a pointer stands in the header.
 ghost use mathlib.Core.Path.{_≡_};
 ghost use Rattle.rules.specs.Calls.{textToBank, bankToText, rawLine};
+ghost use Rattle.identities.specs.Calls.{tagToIdentity, identityToTag};
 ghost use Rattle.codec.specs.Answers.{numberOf, placeOf, wordsOf, lengthOf};
 ghost use Rattle.capi.specs.Replies.{Narrow, replied, Shows};
 use codec::Answer;
@@ -73,6 +74,22 @@ pub extern "C" fn tagcodec_raw_line(bank: &[u8], out: &mut [u8]) -> Reply
     ensures { λ r. ⌜ replied r (now (out .exit)) ≡ rawLine (now (bank .entry)) (now (out .entry)) ⌝ }
 {
     in_numbers(codec::raw_line(bank, out))
+}
+
+// A tag text to the text of its pure identity: numbers 1, 2 to 8 and 20. W is 0.
+#[no_mangle]
+pub extern "C" fn tagcodec_tag_to_identity(text: &[u8], out: &mut [u8]) -> Reply
+    ensures { λ r. ⌜ replied r (now (out .exit)) ≡ tagToIdentity (now (text .entry)) (now (out .entry)) ⌝ }
+{
+    in_numbers(identify::tag_to_identity(text, out))
+}
+
+// The text of a pure identity and a filter to a tag text: numbers 1 and 23 to 25. W is 0.
+#[no_mangle]
+pub extern "C" fn tagcodec_identity_to_tag(text: &[u8], filter: u32, out: &mut [u8]) -> Reply
+    ensures { λ r. ⌜ replied r (now (out .exit)) ≡ identityToTag filter (now (text .entry)) (now (out .entry)) ⌝ }
+{
+    in_numbers(identify::identity_to_tag(text, filter, out))
 }
 
 // The line on the screen. An exported function returns no pointer, so the answer names the text. Any number may come in: above 255 it

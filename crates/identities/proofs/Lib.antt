@@ -8,5 +8,6 @@ pub mod Choices
 pub mod IdentityReads
 pub mod Lengths
 pub mod OneAnswer
+pub mod Places
 pub mod Exact
 pub mod Known
