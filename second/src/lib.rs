@@ -16,6 +16,7 @@ mod encode;
 mod line;
 mod numerals;
 pub mod tables;
+mod tag_text;
 mod tagline;
 
 pub use answer::{Answer, Refusal, Written};

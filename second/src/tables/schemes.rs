@@ -57,6 +57,11 @@ impl Row {
     pub fn integer(&self, table: IntegerTable) -> Integer {
         self.integers[table as usize]
     }
+
+    /// The partition value of the row whose prefix has so many digits.
+    pub fn partition(prefix_digits: usize) -> Option<usize> {
+        ROWS.iter().position(|row| row.prefix.digits == prefix_digits)
+    }
 }
 
 /// The rows by partition value; 7 has none.
