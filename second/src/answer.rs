@@ -3,7 +3,8 @@
 /// What was written, or the refusal, and then nothing is written.
 pub type Answer = Result<Written, Refusal>;
 
-/// How many bytes were written, and the word count of the bank that was written or read.
+/// How many bytes were written, and the word count of the bank that was written or read; 0 where there was
+/// no bank.
 #[derive(Clone, Copy, Debug, PartialEq, Eq)]
 pub struct Written {
     pub length: usize,

@@ -67,6 +67,34 @@ pub fn first(text: &[u8]) -> Option<(u8, usize)> {
     }
 }
 
+/// Whether a text is one character or more, and nothing else.
+pub fn is_string(text: &[u8]) -> bool {
+    let mut rest = text;
+    while !rest.is_empty() {
+        let Some((_, taken)) = first(rest) else { return false };
+        rest = &rest[taken..];
+    }
+    !text.is_empty()
+}
+
+/// How many characters a string has: an escape takes three bytes.
+pub fn count(string: &[u8]) -> usize {
+    string.len() - 2 * string.iter().filter(|&&byte| byte == b'%').count()
+}
+
+/// Whether a text is a component / part reference, which has characters and escapes of its own.
+pub fn is_cp_ref(text: &[u8]) -> bool {
+    let mut rest = text;
+    while !rest.is_empty() {
+        rest = match rest {
+            [b'0'..=b'9' | b'A'..=b'Z' | b'-', behind @ ..] => behind,
+            [b'%', b'2', b'3' | b'F', behind @ ..] => behind,
+            _ => return false,
+        };
+    }
+    !text.is_empty()
+}
+
 /// The character of the escape that a text begins with.
 fn escaped(text: &[u8]) -> Option<u8> {
     let &[b'%', high, low, ..] = text else { return None };
@@ -107,6 +135,28 @@ mod tests {
         let lower = (0..=255u8).filter(|byte| first(format!("%{byte:02x}").as_bytes()).is_some());
         assert_eq!(lower.collect::<Vec<u8>>(), b"\"%&");
         assert_eq!((first(b"%"), first(b"%2"), first(b"%G2")), (None, None, None));
+    }
+
+    #[test]
+    fn strings_are_counted_by_characters() {
+        for (text, count) in [("a", 1), ("%2F", 1), ("%25%25", 2), ("a%3Cb.:", 5)] {
+            assert!(is_string(text.as_bytes()), "{text}");
+            assert_eq!(super::count(text.as_bytes()), count, "{text}");
+        }
+        for text in ["", " ", "a b", "%", "%2", "%2f", "a%41", "aaaa#"] {
+            assert!(!is_string(text.as_bytes()), "{text}");
+        }
+    }
+
+    #[test]
+    fn part_references_have_characters_and_escapes_of_their_own() {
+        let plain: Vec<u8> = (0..=255).filter(|&byte| is_cp_ref(&[b'A', byte, b'0'])).collect();
+        assert_eq!(plain, b"-0123456789ABCDEFGHIJKLMNOPQRSTUVWXYZ");
+        let escapes = (0..=255u8).filter(|byte| is_cp_ref(format!("A%{byte:02X}").as_bytes()));
+        assert_eq!(escapes.collect::<Vec<u8>>(), b"#/");
+        for text in ["", "%", "%2", "%2f", "A%", "%2F%", "%%2F"] {
+            assert!(!is_cp_ref(text.as_bytes()), "{text}");
+        }
     }
 
     #[test]

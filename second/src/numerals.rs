@@ -13,8 +13,7 @@ pub fn padded(text: &[u8]) -> Option<u64> {
 
 /// The value of a number without leading zeros, or its refusal: form before size.
 pub fn integer(text: &[u8], kind: Integer) -> Result<u64, u8> {
-    let leading_zero = text.len() > 1 && text[0] == b'0';
-    if text.is_empty() || leading_zero || !all_digits(text) {
+    if !is_integer(text) {
         return Err(kind.form);
     }
     if text.len() > MOST_DIGITS {
@@ -34,7 +33,13 @@ pub fn numeric_string(text: &[u8], kind: NumericString) -> Result<u64, u8> {
     Ok(10u64.pow(text.len() as u32) + value(text))
 }
 
-fn all_digits(text: &[u8]) -> bool {
+/// Whether a text is a number without leading zeros, of any size.
+pub fn is_integer(text: &[u8]) -> bool {
+    let leading_zero = text.len() > 1 && text[0] == b'0';
+    !text.is_empty() && !leading_zero && all_digits(text)
+}
+
+pub fn all_digits(text: &[u8]) -> bool {
     text.iter().all(u8::is_ascii_digit)
 }
 

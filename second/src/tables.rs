@@ -1,8 +1,11 @@
-//! Every number of document 01 and of document 02's requests C-11, C-12, C-13 and C-15, typed from their
-//! tables and sentences; `schemes` has those of the schemes and of the partition tables.
+//! Every number of document 01 and of document 02's requests C-11, C-12, C-13, C-15 and C-16, typed from
+//! their tables and sentences; `schemes` has those of the schemes and of the partition tables, `families`
+//! the families of identities.
 
+mod families;
 mod schemes;
 
+pub use families::*;
 pub use schemes::*;
 
 /// Numbers of refusals, "Numbers given, and when", in the order in which they are looked for.
@@ -29,6 +32,9 @@ pub mod refusal {
     pub const PREFIX: u8 = 17;
     pub const REFERENCE: u8 = 18;
     pub const STRING: u8 = 19;
+    pub const IDENTITY: u8 = 23;
+    pub const GIVEN_FILTER: u8 = 24;
+    pub const NO_SCHEME: u8 = 25;
 }
 
 /// The refusals of a bank whose raw line is shown.
@@ -42,13 +48,17 @@ pub const TEXT_ROOM: usize = 160;
 pub const MOST_WORDS: usize = 31;
 pub const SMALLEST: usize = 0;
 
-/// The longest lines of the program: a text, and a bank in hex.
+/// The largest filter that can be given with an identity whose scheme has one.
+pub const MOST_FILTER: u32 = 7;
+
+/// The longest lines of the programs: a text, and a bank in hex.
 pub const TEXT_LINE: usize = 200;
 pub const BANK_LINE: usize = 128;
 
 pub const LINE_START: &[u8] = b"urn:";
 pub const TAG_START: &[u8] = b"urn:epc:tag:";
 pub const RAW_START: &[u8] = b"urn:epc:raw:";
+pub const IDENTITY_START: &[u8] = b"urn:epc:id:";
 
 /// Control fields before a scheme's name: the user memory bit, the attribute bits in hex, and what stands
 /// behind the last field.

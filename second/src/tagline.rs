@@ -1,30 +1,25 @@
-//! The program's answer to one line.
+//! The answer of the program tagline to one line.
 
 use crate::line::Line;
 use crate::numerals::hex_value;
+use crate::replies;
 use crate::tables::*;
 use crate::{bank_to_text, raw_line, screen, text_to_bank};
 
-/// Room for the longest answer: a letter, a number and the longest raw line.
-const ANSWER_ROOM: usize = TEXT_ROOM;
-
 /// Adds the answer to a line, which comes without its line feed, and a line feed.
 pub fn reply(line: &[u8], out: &mut Vec<u8>) {
-    let mut room = [0; ANSWER_ROOM];
-    let mut answer = Line::new(&mut room);
-    if line.starts_with(LINE_START) {
-        reply_to_text(line, &mut answer);
-    } else {
-        reply_to_hex(line, &mut answer);
-    }
-    answer.push(b"\n");
-    let length = answer.length();
-    out.extend_from_slice(&room[..length]);
+    replies::add(out, |answer| {
+        if line.starts_with(LINE_START) {
+            reply_to_text(line, answer);
+        } else {
+            reply_to_hex(line, answer);
+        }
+    });
 }
 
 fn reply_to_text(text: &[u8], answer: &mut Line) {
     if text.len() > TEXT_LINE {
-        return answer.push(b"X");
+        return replies::no_line(answer);
     }
     let mut bank = [0; BANK_ROOM];
     match text_to_bank(text, SMALLEST, &mut bank) {
@@ -32,7 +27,7 @@ fn reply_to_text(text: &[u8], answer: &mut Line) {
             answer.push(b"B ");
             answer.hex(&bank[..written.length]);
         }
-        Err(refusal) => reply_number(b"N ", refusal.number, answer),
+        Err(refusal) => replies::number(b"N ", refusal.number, answer),
     }
 }
 
@@ -40,7 +35,7 @@ fn reply_to_hex(line: &[u8], answer: &mut Line) {
     let mut bank = [0; BANK_LINE / 2];
     match read_hex(line, &mut bank) {
         Some(length) => reply_to_bank(&bank[..length], answer),
-        None => answer.push(b"X"),
+        None => replies::no_line(answer),
     }
 }
 
@@ -61,16 +56,11 @@ fn reply_to_refused(bank: &[u8], number: u8, answer: &mut Line) {
     let length = raw_line(bank, &mut raw).map_or(0, |written| written.length);
     let shown = screen(&[], &raw[..length], number);
     if shown.is_empty() {
-        return reply_number(b"N ", number, answer);
+        return replies::number(b"N ", number, answer);
     }
-    reply_number(b"R ", number, answer);
+    replies::number(b"R ", number, answer);
     answer.push(b" ");
     answer.push(shown);
-}
-
-fn reply_number(letter: &[u8], number: u8, answer: &mut Line) {
-    answer.push(letter);
-    answer.integer(number.into());
 }
 
 /// How many bytes an even number of upper-case hex digits gave, at most 128 digits.

@@ -55,14 +55,27 @@ fn no_call_allocates() {
         &[8, 0, 1, 1],
         &[],
     ];
+    let identities = [
+        "urn:epc:id:sgtin:0614141.812345.a%2Fb",
+        "urn:epc:id:cpi:9521141.5PQ7%2FZ43.12345",
+        "urn:epc:id:gid:1.2.3",
+        "urn:epc:id:gid:1.2.03",
+    ];
     let (mut bank, mut text) = ([0; 64], [0; 160]);
-    let mut answer = Vec::with_capacity(1000);
+    let mut answer = Vec::with_capacity(2000);
     let count = allocations(|| {
         for input in texts.map(str::as_bytes) {
             for words in [0, 5, 31, 32] {
                 let _ = second::text_to_bank(input, words, &mut bank);
             }
+            let _ = second::tag_to_identity(input, &mut text);
             second::reply(input, &mut answer);
+            second::identity_reply(input, &mut answer);
+        }
+        for input in identities.map(str::as_bytes) {
+            for filter in [0, 7, 8] {
+                let _ = second::identity_to_tag(input, filter, &mut text);
+            }
         }
         for input in banks {
             let _ = second::bank_to_text(input, &mut text);

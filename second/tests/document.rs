@@ -1,6 +1,6 @@
 //! The typed tables, written as document 01 writes them, are the rows that stand there; what document
-//! 02 says of the schemes that it adds, of the places of refusals, of control fields, and of word counts,
-//! stands in it.
+//! 02 says of the schemes that it adds, of the places of refusals, of control fields, of word counts, and
+//! of identities, stands in it.
 
 use second::tables::*;
 
@@ -156,4 +156,18 @@ fn word_counts_of_document_02() {
     )));
     assert_eq!(usize::from(u16::MAX >> control::WORD_COUNT_SHIFT), MOST_WORDS);
     assert_eq!(BANK_ROOM, WORD_BYTES * (1 + MOST_WORDS));
+}
+
+#[test]
+fn families_of_document_02() {
+    let request = request("C-16");
+    let names = FAMILIES.each_ref().map(|family| family.name.escape_ascii().to_string());
+    let (last, before) = names.split_last().unwrap();
+    assert!(request.contains(&format!("The families are {} and {last}.", before.join(", "))));
+    let (form, filter, scheme) = (refusal::IDENTITY, refusal::GIVEN_FILTER, refusal::NO_SCHEME);
+    assert!(request.contains(&format!("new {form}, not a text of a listed family")));
+    assert!(
+        request.contains(&format!("; {filter}, filter above {MOST_FILTER}, or not 0 for gid; "))
+    );
+    assert!(request.contains(&format!("; {scheme}, no scheme we have holds it; in that order")));
 }

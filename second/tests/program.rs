@@ -7,7 +7,12 @@ use std::io::Write;
 use std::process::{Command, Stdio};
 
 fn run(input: Vec<u8>) -> String {
+    run_with(&[], input)
+}
+
+fn run_with(arguments: &[&str], input: Vec<u8>) -> String {
     let mut program = Command::new(env!("CARGO_BIN_EXE_second"))
+        .args(arguments)
         .stdin(Stdio::piped())
         .stdout(Stdio::piped())
         .spawn()
@@ -27,6 +32,16 @@ fn a_line_feed_ends_a_line_and_starts_none() {
     assert_eq!(run(b"\n\n".to_vec()), "N 9\nN 9\n");
     assert_eq!(run(b"0000".to_vec()), "N 10\n");
     assert_eq!(run(b"0000\n30".to_vec()), "N 10\nN 9\n");
+}
+
+#[test]
+fn the_argument_names_the_other_program() {
+    let lines = b"urn:epc:tag:gid-96:1.2.3\n0 urn:epc:id:gid:1.2.3\n\n0000".to_vec();
+    assert_eq!(run(lines.clone()), "B 3000350000001000002000000003\nX\nN 9\nN 10\n");
+    let answers = "I urn:epc:id:gid:1.2.3\nT urn:epc:tag:gid-96:1.2.3\nX\nX\n";
+    assert_eq!(run_with(&["identity"], lines), answers);
+    let unknown = Command::new(env!("CARGO_BIN_EXE_second")).arg("identify").output().unwrap();
+    assert!(!unknown.status.success() && unknown.stdout.is_empty());
 }
 
 #[test]

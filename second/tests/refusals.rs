@@ -31,6 +31,8 @@ fn refusal_1_short_outputs() {
         ((|text, out| second::text_to_bank(text, 0, out)) as Call, &text[..], 64),
         (second::bank_to_text, &bank[..], 160),
         (second::raw_line, &bank[..], 160),
+        (second::tag_to_identity, &text[..], 160),
+        (|identity, out| second::identity_to_tag(identity, 0, out), b"urn:epc:id:gid:1.2.3", 160),
     ] {
         for length in [0, 1, room - 1] {
             for input in [input, b"", b"?"] {

@@ -122,6 +122,20 @@ impl Scheme {
         self.bits - self.zeros
     }
 
+    /// What its name has before the hyphen.
+    pub fn family(&self) -> &'static [u8] {
+        self.name.split(|&byte| byte == b'-').next().unwrap_or(self.name)
+    }
+
+    pub fn has_filter(&self) -> bool {
+        matches!(self.parts, [Part::Filter, ..])
+    }
+
+    /// The parts that an identity has too.
+    pub fn behind_filter(&self) -> &'static [Part] {
+        &self.parts[usize::from(self.has_filter())..]
+    }
+
     pub fn by_name(name: &[u8]) -> Option<&'static Scheme> {
         SCHEMES.iter().find(|scheme| scheme.name == name)
     }

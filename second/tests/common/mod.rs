@@ -2,6 +2,8 @@
 
 #![allow(dead_code)]
 
+pub mod vectors;
+
 use second::tables::{BANK_ROOM, SMALLEST, TEXT_ROOM};
 use second::{Answer, Refusal, Written};
 
@@ -77,6 +79,27 @@ pub fn word_count(bank: &[u8]) -> usize {
     (bank[0] >> 3).into()
 }
 
+/// The identity of a tag's text. The answer has no word count.
+pub fn identity_of(tag: &[u8]) -> Result<String, Refusal> {
+    without_words(checked(TEXT_ROOM, |out| second::tag_to_identity(tag, out)))
+}
+
+/// The tag's text of an identity and a filter. The answer has no word count, and a refusal no place.
+pub fn tag_of(identity: &[u8], filter: u32) -> Result<String, u8> {
+    let answer = checked(TEXT_ROOM, |out| second::identity_to_tag(identity, filter, out));
+    without_words(answer).map_err(|Refusal { number, place }| {
+        assert_eq!(place, 0);
+        number
+    })
+}
+
+fn without_words(answer: Result<(Vec<u8>, usize), Refusal>) -> Result<String, Refusal> {
+    answer.map(|(text, words)| {
+        assert_eq!(words, 0);
+        String::from_utf8(text).unwrap()
+    })
+}
+
 fn shown(answer: Result<Vec<u8>, Refusal>) -> Result<String, u8> {
     answer.map(|text| String::from_utf8(text).unwrap()).map_err(|refusal| refusal.number)
 }
@@ -147,10 +170,19 @@ pub fn assert_pair_in(words: usize, text: &str, bank: &[u8]) {
     assert_eq!(decode(bank), Ok(text.to_string()));
 }
 
-/// The program's answer to a line, without the line feed.
+/// The answer of the program tagline to a line, without the line feed.
 pub fn reply(line: &[u8]) -> String {
+    added(second::reply, line)
+}
+
+/// That of the program identity.
+pub fn identity_reply(line: &[u8]) -> String {
+    added(second::identity_reply, line)
+}
+
+fn added(reply: fn(&[u8], &mut Vec<u8>), line: &[u8]) -> String {
     let mut out = b"before".to_vec();
-    second::reply(line, &mut out);
+    reply(line, &mut out);
     let answer = String::from_utf8(out).unwrap();
     answer.strip_prefix("before").unwrap().strip_suffix('\n').unwrap().to_string()
 }
