@@ -48,12 +48,11 @@ def known():
 def annex():
     """The standard's examples in docs/vectors.tsv, as corrected there; other schemes are refused 3 and 13."""
     schemes = {scheme.name: scheme for scheme in SCHEMES}
-    for row in (ROOT / "docs" / "vectors.tsv").read_text(encoding="utf-8").splitlines()[1:]:
-        _, _, name, tag_text, code, identity, note = row.split("\t")
+    for name, tag_text, code, identity, note in vectors():
         tag_text = token(note, "{FIX tag_uri=", tag_text)
         code = token(note, "{FIX code_hex=", code)
         words = schemes[name].words if name in schemes else -(-len(code) // 4)
-        assert not code[4 * words :].strip("0"), row
+        assert not code[4 * words :].strip("0"), code
         bank = f"{words << 11:04X}{code[:4 * words]:0<{4 * words}}"
         ours = name in schemes and "{EXPECT tag=" not in note
         if tag_text != "-":
@@ -64,6 +63,12 @@ def annex():
         if identity != "-":
             yield identity, "N 2"
     yield from section_12()
+
+
+def vectors():
+    """For each row of docs/vectors.tsv its scheme, tag text, code, identity, as printed, and note; a hyphen for what it lacks."""
+    rows = (ROOT / "docs" / "vectors.tsv").read_text(encoding="utf-8").splitlines()[1:]
+    return [row.split("\t")[2:] for row in rows]
 
 
 def section_12():

@@ -1,4 +1,4 @@
-"""Seeded tags and lines.
+"""Seeded tags, and lines of the program tagline.
 
     python3 tests/seeded.py LINES SEED     print so many lines; the same seed gives the same ones
 """
@@ -63,7 +63,11 @@ def mutated(random, tag):
         bank = tag.bank()
         turned = int(bank, 16) ^ 1 << random.below(4 * len(bank))
         return f"{turned:0{len(bank)}X}"
-    line = tag.text() if random.below(4) else tag.bank()
+    return one_changed(random, tag.text() if random.below(4) else tag.bank())
+
+
+def one_changed(random, line):
+    """A line with one character changed, put in or left out."""
     place = random.below(len(line))
     new = random.choice(USUAL if random.below(3) else BYTES)
     kind = random.below(3)
@@ -117,7 +121,8 @@ def line(random):
     return random_fields(random) if kind == 14 else random_bytes(random)
 
 
-def main():
+def print_lines(line):
+    """Prints as many lines as the first argument says, with the second for a seed."""
     lines, seed = map(int, sys.argv[1:])
     random = Random(seed)
     for _ in range(lines):
@@ -125,4 +130,4 @@ def main():
 
 
 if __name__ == "__main__":
-    main()
+    print_lines(line)
