@@ -16,31 +16,31 @@ pub struct Reply {
     pub length: usize,
 }
 
-type TextCall = unsafe extern "C" fn(*const u8, usize, u32, *mut u8, usize) -> Reply;
-type BankCall = unsafe extern "C" fn(*const u8, usize, *mut u8, usize) -> Reply;
+type NumberCall = unsafe extern "C" fn(*const u8, usize, u32, *mut u8, usize) -> Reply;
+type PlainCall = unsafe extern "C" fn(*const u8, usize, *mut u8, usize) -> Reply;
 
-/// A call of one codec; a text's comes with the word count to ask for.
+/// A call of one codec. Two come with a number: text to bank with the word count to ask for, identity to tag with the filter.
 #[derive(Clone, Copy)]
 pub enum Call {
-    Text(TextCall, u32),
-    Bank(BankCall),
+    Number(NumberCall, u32),
+    Plain(PlainCall),
 }
 
 impl Call {
     pub fn give(self, given: &[u8], out: &mut [u8]) -> Reply {
         match self {
-            Call::Text(call, words) => give_text(call, given, words, out),
-            Call::Bank(call) => give_bank(call, given, out),
+            Call::Number(call, number) => give_number(call, given, number, out),
+            Call::Plain(call) => give_plain(call, given, out),
         }
     }
 }
 
-pub fn give_text(call: TextCall, text: &[u8], words: u32, out: &mut [u8]) -> Reply {
-    unsafe { call(text.as_ptr(), text.len(), words, out.as_mut_ptr(), out.len()) }
+pub fn give_number(call: NumberCall, text: &[u8], number: u32, out: &mut [u8]) -> Reply {
+    unsafe { call(text.as_ptr(), text.len(), number, out.as_mut_ptr(), out.len()) }
 }
 
-pub fn give_bank(call: BankCall, bank: &[u8], out: &mut [u8]) -> Reply {
-    unsafe { call(bank.as_ptr(), bank.len(), out.as_mut_ptr(), out.len()) }
+pub fn give_plain(call: PlainCall, given: &[u8], out: &mut [u8]) -> Reply {
+    unsafe { call(given.as_ptr(), given.len(), out.as_mut_ptr(), out.len()) }
 }
 
 /// A call of both codecs.
@@ -54,12 +54,14 @@ extern "C" {
     fn tagcodec_text_to_bank(text: *const u8, text_length: usize, words: u32, out: *mut u8, out_length: usize) -> Reply;
     fn tagcodec_bank_to_text(bank: *const u8, bank_length: usize, out: *mut u8, out_length: usize) -> Reply;
     fn tagcodec_raw_line(bank: *const u8, bank_length: usize, out: *mut u8, out_length: usize) -> Reply;
+    fn tagcodec_tag_to_identity(text: *const u8, text_length: usize, out: *mut u8, out_length: usize) -> Reply;
+    fn tagcodec_identity_to_tag(text: *const u8, text_length: usize, filter: u32, out: *mut u8, out_length: usize) -> Reply;
 }
 
 macro_rules! called_from_c {
-    ($name:ident, $call:path $(, $words:ident)?) => {
-        unsafe extern "C" fn $name(given: *const u8, given_length: usize, $($words: u32,)? out: *mut u8, out_length: usize) -> Reply {
-            match $call(from_raw_parts(given, given_length), $($words as usize,)? from_raw_parts_mut(out, out_length)) {
+    ($name:ident, $call:path $(, $number:ident as $type:ty)?) => {
+        unsafe extern "C" fn $name(given: *const u8, given_length: usize, $($number: u32,)? out: *mut u8, out_length: usize) -> Reply {
+            match $call(from_raw_parts(given, given_length), $($number as $type,)? from_raw_parts_mut(out, out_length)) {
                 Ok(Written { length, words }) => Reply { number: 0, place: 0, words: words as u16, length },
                 Err(Refusal { number, place }) => Reply { number: number.into(), place: place as u16, words: 0, length: 0 },
             }
@@ -67,14 +69,23 @@ macro_rules! called_from_c {
     };
 }
 
-called_from_c!(second_text_to_bank, second::text_to_bank, words);
+called_from_c!(second_text_to_bank, second::text_to_bank, words as usize);
 called_from_c!(second_bank_to_text, second::bank_to_text);
 called_from_c!(second_raw_line, second::raw_line);
+called_from_c!(second_tag_to_identity, second::tag_to_identity);
+called_from_c!(second_identity_to_tag, second::identity_to_tag, filter as u32);
 
 /// Text to bank, asked for so many words.
 pub const fn text_to_bank(words: u32) -> Pair {
-    Pair { proved: Call::Text(tagcodec_text_to_bank, words), second: Call::Text(second_text_to_bank, words) }
+    Pair { proved: Call::Number(tagcodec_text_to_bank, words), second: Call::Number(second_text_to_bank, words) }
 }
 
-pub const BANK_TO_TEXT: Pair = Pair { proved: Call::Bank(tagcodec_bank_to_text), second: Call::Bank(second_bank_to_text) };
-pub const RAW_LINE: Pair = Pair { proved: Call::Bank(tagcodec_raw_line), second: Call::Bank(second_raw_line) };
+/// Identity to tag with a filter.
+pub const fn identity_to_tag(filter: u32) -> Pair {
+    Pair { proved: Call::Number(tagcodec_identity_to_tag, filter), second: Call::Number(second_identity_to_tag, filter) }
+}
+
+pub const BANK_TO_TEXT: Pair = Pair { proved: Call::Plain(tagcodec_bank_to_text), second: Call::Plain(second_bank_to_text) };
+pub const RAW_LINE: Pair = Pair { proved: Call::Plain(tagcodec_raw_line), second: Call::Plain(second_raw_line) };
+pub const TAG_TO_IDENTITY: Pair =
+    Pair { proved: Call::Plain(tagcodec_tag_to_identity), second: Call::Plain(second_tag_to_identity) };

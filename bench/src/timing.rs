@@ -1,5 +1,5 @@
 //! Time by rounds: in each round every call is measured once, the two codecs by turns, and the shortest time of each is kept.
-use crate::codecs::{give_bank, give_text, Call, Pair, Reply};
+use crate::codecs::{give_number, give_plain, Call, Pair, Reply};
 use std::hint::black_box;
 use std::time::Instant;
 
@@ -36,8 +36,8 @@ impl Case {
     /// Which kind of call it is, is settled before the time is taken.
     fn once(&self, call: Call, times: usize) -> f64 {
         match black_box(call) {
-            Call::Text(call, words) => self.taken(times, |text, out| give_text(call, text, words, out)),
-            Call::Bank(call) => self.taken(times, |bank, out| give_bank(call, bank, out)),
+            Call::Number(call, number) => self.taken(times, |text, out| give_number(call, text, number, out)),
+            Call::Plain(call) => self.taken(times, |given, out| give_plain(call, given, out)),
         }
     }
 

@@ -1,16 +1,20 @@
-//! The proved library and second on the same lines: each is a text, to be written in some word counts, and where it is upper-case
-//! hexadecimal, a bank too. Both give the same number, place, words, length and output. The lines of the first file must show every place
-//! that a refusal can have.
+//! The proved library and second on the same lines: each is a text, to be written in some word counts and to be turned into an identity;
+//! behind a digit and a space, if it has them, it is an identity, to be turned into a tag with some filters; and where it is upper-case
+//! hexadecimal, it is a bank too. Both give the same number, place, words, length and output. The lines of the first file must show every
+//! place that a refusal can have, those of the second every number of every family.
 #[path = "../../../bench/src/codecs.rs"]
 mod codecs;
 mod expected;
+mod identities;
 mod place;
 mod seen;
 
-use codecs::{text_to_bank, Pair, Reply, BANK_TO_TEXT, MOST_WORDS, RAW_LINE, SMALLEST};
+use codecs::{identity_to_tag, text_to_bank, Pair, Reply, BANK_TO_TEXT, MOST_WORDS, RAW_LINE, SMALLEST, TAG_TO_IDENTITY};
+use identities::{identity_in, Judged, FILTERS};
 use place::Place;
-use second::tables::{BANK_ROOM, TEXT_ROOM};
+use second::tables::{BANK_ROOM, MOST_FILTER, TEXT_ROOM};
 use std::collections::BTreeSet;
+use std::fmt::Display;
 
 /// A call of both codecs, the least output that it takes, and the others that it is given.
 struct Call {
@@ -22,6 +26,8 @@ struct Call {
 
 const BANK: Call = Call { name: "bank_to_text", pair: BANK_TO_TEXT, room: TEXT_ROOM, others: &[TEXT_ROOM - 1, TEXT_ROOM + MORE] };
 const RAW: Call = Call { name: "raw_line", pair: RAW_LINE, ..BANK };
+const TAG: Call =
+    Call { name: "tag_to_identity", pair: TAG_TO_IDENTITY, room: TEXT_ROOM, others: &[0, TEXT_ROOM - 1, TEXT_ROOM + MORE] };
 
 /// The first word count that is too large.
 const TOO_MANY: u32 = MOST_WORDS + 1;
@@ -37,17 +43,25 @@ const fn text(words: u32) -> Call {
     Call { name: "text_to_bank", pair: text_to_bank(words), room: BANK_ROOM, others }
 }
 
+/// Identity to tag with a filter; the first that is good and the first that is too large go into every output, since 1 comes before all.
+const fn identity(filter: u32) -> Call {
+    const TOO_LARGE: u32 = MOST_FILTER + 1;
+    let others: &[usize] = if matches!(filter, 0 | TOO_LARGE) { TAG.others } else { &[] };
+    Call { name: "identity_to_tag", pair: identity_to_tag(filter), room: TEXT_ROOM, others }
+}
+
 /// How many bytes the larger output has more than the least.
 const MORE: usize = 37;
 /// How many missing places are named, and how many bytes of a line are shown.
 const NAMED: usize = 10;
 const SHOWN: usize = 300;
 
-/// How many calls of the library there were, and the places seen.
+/// How many calls of the library there were, the places seen, and the numbers of each family.
 #[derive(Default)]
 struct Tally {
     calls: usize,
     seen: BTreeSet<Place>,
+    judged: BTreeSet<Judged>,
 }
 
 impl Tally {
@@ -60,6 +74,12 @@ impl Tally {
             let reply = self.call(&BANK, &bank)?;
             self.seen.extend(seen::in_bank(&bank, reply));
             self.call(&RAW, &bank)?;
+        }
+        self.call(&TAG, line)?;
+        let text = identity_in(line);
+        for filter in FILTERS {
+            let reply = self.call(&identity(filter), text).map_err(|what| format!("with filter {filter}, {what}"))?;
+            self.judged.extend(Judged::new(text, reply.number));
         }
         Ok(())
     }
@@ -112,23 +132,29 @@ fn file(path: &str, tally: &mut Tally) -> Result<(), String> {
     Ok(())
 }
 
-/// An error that names the first of the places that were not seen, and says how many there are.
-fn all_seen(path: &str, expected: &BTreeSet<Place>, seen: &BTreeSet<Place>) -> Result<(), String> {
-    let missing: Vec<String> = expected.difference(seen).map(Place::to_string).collect();
+/// An error that names the first of what was expected and not seen, and says how many there are.
+fn all_seen<T: Ord + Display>(path: &str, what: &str, expected: &BTreeSet<T>, seen: &BTreeSet<T>) -> Result<(), String> {
+    let missing: Vec<String> = expected.difference(seen).map(T::to_string).collect();
     if missing.is_empty() {
         return Ok(());
     }
     let named = &missing[..missing.len().min(NAMED)];
-    Err(format!("{path} lacks {} of {} places, among them:\n{}", missing.len(), expected.len(), named.join("\n")))
+    Err(format!("{path} lacks {} of {} {what}, among them:\n{}", missing.len(), expected.len(), named.join("\n")))
 }
 
 fn run(paths: &[String]) -> Result<(), String> {
-    let [gate, more @ ..] = paths else { return Err("usage: agree LINES [MORE..] (tests/agree/run calls it)".into()) };
-    let (expected, mut tally) = (expected::places(), Tally::default());
-    file(gate, &mut tally)?;
-    all_seen(gate, &expected, &tally.seen)?;
+    let [tags, identities, more @ ..] = paths else {
+        return Err("usage: agree TAG-LINES IDENTITY-LINES [MORE..] (tests/agree/run calls it)".into());
+    };
+    let (places, numbers) = (expected::places(), identities::expected());
+    let mut tally = Tally::default();
+    file(tags, &mut tally)?;
+    all_seen(tags, "places", &places, &tally.seen)?;
+    tally.judged.clear();
+    file(identities, &mut tally)?;
+    all_seen(identities, "numbers of families", &numbers, &tally.judged)?;
     more.iter().try_for_each(|path| file(path, &mut tally))?;
-    println!("agree: {} calls, no difference, {} places", tally.calls, expected.len());
+    println!("agree: {} calls, no difference, {} places, {} numbers of families", tally.calls, places.len(), numbers.len());
     Ok(())
 }
 
