@@ -1,7 +1,7 @@
-//! What is measured: tags of each scheme in every row of its table, without control fields and with both, in banks of any word count, and
-//! hostile texts of any length.
+//! What is measured: tags of each scheme in every row of its table, without control fields and with both, in banks of any word count, their
+//! identities, and hostile texts of any length.
 
-use crate::codecs::text_to_bank;
+use crate::codecs::{text_to_bank, Pair, TAG_TO_IDENTITY};
 
 /// What stands behind the company prefix, with its digits or bits (docs/01-scope.md, "The thirteen schemes", and request C-11 of
 /// docs/02-change-requests.md).
@@ -135,10 +135,33 @@ pub fn with_fields(text: &[u8], seeded: &mut Seeded) -> Vec<u8> {
 
 /// The bank of a text that is a tag's, asked for in so many words.
 pub fn bank_of(text: &[u8], words: u32) -> Vec<u8> {
-    let mut out = [0; 64];
-    let reply = text_to_bank(words).proved.give(text, &mut out);
+    written(text_to_bank(words), text)
+}
+
+/// The identity of a text that is a tag's.
+pub fn identity_of(text: &[u8]) -> Vec<u8> {
+    written(TAG_TO_IDENTITY, text)
+}
+
+fn written(call: Pair, text: &[u8]) -> Vec<u8> {
+    let mut out = [0; 160];
+    let reply = call.proved.give(text, &mut out);
     assert_eq!(reply.number, 0, "{}", String::from_utf8_lossy(text));
     out[..reply.length].to_vec()
+}
+
+/// The identity with a byte behind it that no component has.
+pub fn malformed(identity: &[u8]) -> Vec<u8> {
+    [identity, b"#"].concat()
+}
+
+/// The identity with its first dot behind five digits: good by the grammar, but no row has such a prefix.
+pub fn with_short_prefix(identity: &[u8]) -> Vec<u8> {
+    let dot = identity.iter().position(|&byte| byte == b'.').expect("a dot behind the prefix");
+    let (before, behind) = (&identity[..dot], &identity[dot + 1..]);
+    let colon = before.iter().rposition(|&byte| byte == b':').expect("a family's colon");
+    let (five, more) = before.split_at(colon + 1 + 5);
+    [five, b".", more, behind].concat()
 }
 
 /// What repeats, and before what: each text is wrong or too long only at its very end, but for the control fields, of which the second

@@ -1,12 +1,13 @@
 //! The figures of docs/FIGURES.md, as tables in Markdown: each call on each scheme, without and with control fields, both ways with long
-//! banks, long texts, and the two programs on lines.
+//! banks, identities both ways and refused, long texts, and the programs on lines.
 mod codecs;
 mod inputs;
 mod programs;
 mod timing;
 
-use codecs::{text_to_bank, Pair, BANK_TO_TEXT, MOST_WORDS, RAW_LINE, SMALLEST};
-use inputs::{bank_of, hostile, texts, with_fields, Seeded, HOSTILE, SCHEMES};
+use codecs::{identity_to_tag, text_to_bank, Pair, BANK_TO_TEXT, MOST_WORDS, RAW_LINE, SMALLEST, TAG_TO_IDENTITY};
+use inputs::{bank_of, hostile, identity_of, malformed, texts, with_fields, with_short_prefix, Seeded, HOSTILE, SCHEMES};
+use programs::{identity_lines, print_lines, tag_lines};
 use timing::{measure, Case, Times};
 
 /// How many tags of a scheme are gone through: too many for the processor to learn their branches.
@@ -79,6 +80,37 @@ fn calls_with_long_banks() -> Vec<Case> {
     cases
 }
 
+/// Each scheme's tags as identities.
+fn identities(tags: &[Tags]) -> Vec<Tags> {
+    tags.iter().map(|(name, texts)| (*name, texts.iter().map(|text| identity_of(text)).collect())).collect()
+}
+
+/// Identities both ways, with filter 0, which gid takes too. Those of a long scheme whose serials are short, and those of gdti-113, go to
+/// another scheme.
+fn calls_of_identities() -> Vec<Case> {
+    let tags = tags();
+    let mut cases = on_texts("tag_to_identity", TAG_TO_IDENTITY, &tags);
+    cases.extend(on_texts("identity_to_tag", identity_to_tag(0), &identities(&tags)));
+    cases
+}
+
+/// Identities of all schemes that are refused, each changed for it. gid, which has no rows, has no 25 of this kind.
+fn refused_identities() -> Vec<Case> {
+    let mut good = identities(&tags());
+    let mut cases = vec![refused(23, 0, &good, malformed), refused(24, 8, &good, <[u8]>::to_vec)];
+    good.retain(|(name, _)| *name != "gid-96");
+    cases.push(refused(25, 0, &good, with_short_prefix));
+    cases
+}
+
+fn refused(number: u32, filter: u32, identities: &[Tags], change: fn(&[u8]) -> Vec<u8>) -> Case {
+    let some = identities.iter().flat_map(|(_, texts)| texts.iter().step_by(SCHEMES.len()));
+    let inputs: Vec<Vec<u8>> = some.map(|text| change(text)).collect();
+    let calls = identity_to_tag(filter);
+    assert!(inputs.iter().all(|text| calls.second.give(text, &mut [0; 160]).number == number));
+    case([&format!("identity_to_tag, {number}"), "all"], calls, inputs)
+}
+
 /// Text to bank on long texts.
 fn growth() -> Vec<Case> {
     let of = |(name, start, repeated): (&str, &str, &str), length: usize| {
@@ -117,16 +149,19 @@ fn print_growth() {
     println!();
 }
 
-/// The folder for the lines, the program of the proved codec and second's.
+/// The folder for the lines, the programs of the proved codec, and second's.
 fn main() {
     let arguments: Vec<String> = std::env::args().skip(1).collect();
-    let [folder, tagline, second] = &arguments[..] else {
-        eprintln!("usage: bench FOLDER TAGLINE SECOND (bench/run calls it)");
+    let [folder, tagline, identity, second] = &arguments[..] else {
+        eprintln!("usage: bench FOLDER TAGLINE IDENTITY SECOND (bench/run calls it)");
         std::process::exit(2);
     };
     print_calls(&calls());
     print_calls(&calls_with_fields());
     print_calls(&calls_with_long_banks());
+    print_calls(&calls_of_identities());
+    print_calls(&refused_identities());
     print_growth();
-    programs::print_lines(folder, tagline, second);
+    print_lines(folder, &tag_lines(), &[tagline], &[second]);
+    print_lines(folder, &identity_lines(), &[identity], &[second, "identity"]);
 }
