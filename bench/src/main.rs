@@ -97,18 +97,18 @@ fn calls_of_identities() -> Vec<Case> {
 /// Identities of all schemes that are refused, each changed for it. gid, which has no rows, has no 25 of this kind.
 fn refused_identities() -> Vec<Case> {
     let mut good = identities(&tags());
-    let mut cases = vec![refused(23, 0, &good, malformed), refused(24, 8, &good, <[u8]>::to_vec)];
+    let mut cases = vec![refused(23, 0, "all", &good, malformed), refused(24, 8, "all", &good, <[u8]>::to_vec)];
     good.retain(|(name, _)| *name != "gid-96");
-    cases.push(refused(25, 0, &good, with_short_prefix));
+    cases.push(refused(25, 0, "all but gid-96", &good, with_short_prefix));
     cases
 }
 
-fn refused(number: u32, filter: u32, identities: &[Tags], change: fn(&[u8]) -> Vec<u8>) -> Case {
+fn refused(number: u32, filter: u32, whose: &str, identities: &[Tags], change: fn(&[u8]) -> Vec<u8>) -> Case {
     let some = identities.iter().flat_map(|(_, texts)| texts.iter().step_by(SCHEMES.len()));
     let inputs: Vec<Vec<u8>> = some.map(|text| change(text)).collect();
     let calls = identity_to_tag(filter);
     assert!(inputs.iter().all(|text| calls.second.give(text, &mut [0; 160]).number == number));
-    case([&format!("identity_to_tag, {number}"), "all"], calls, inputs)
+    case([&format!("identity_to_tag, {number}"), whose], calls, inputs)
 }
 
 /// Text to bank on long texts.
