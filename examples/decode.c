@@ -3,11 +3,7 @@
  * Prints the number of the first broken rule, 0 for none. With 0: the tag's text and how many words its bank has, or the bank. With
  * another: the place, and for a bank the line on the screen, if there is one to show; for a text the text, and a mark under the
  * character at the place. 21 and 22 refuse the number of words, not the text: that number stands for the place, without a mark. */
-#include <stdio.h>
-#include <stdlib.h>
-#include <string.h>
-
-#include "tagcodec.h"
+#include "shown.h"
 
 static int digit(char c) {
     const char *digits = "0123456789ABCDEF";
@@ -25,14 +21,6 @@ static int from_hex(const char *text, uint8_t *bytes, size_t most) {
         bytes[i] = (uint8_t)(16 * high + low);
     }
     return (int)(n / 2);
-}
-
-/* Whether a text is decimal digits whose value 32 bits hold; `value` is then that. */
-static int from_decimal(const char *text, uint32_t *value) {
-    size_t digits = strspn(text, "0123456789");
-    unsigned long long read = strtoull(text, NULL, 10);
-    *value = (uint32_t)read;
-    return digits > 0 && text[digits] == '\0' && read <= UINT32_MAX;
 }
 
 static void show_bank(const uint8_t *bank, size_t size) {
@@ -53,19 +41,15 @@ static void show_text(const char *text, uint32_t words) {
     uint8_t bank[TAGCODEC_BANK_ROOM];
     tagcodec_reply reply = tagcodec_text_to_bank((const uint8_t *)text, strlen(text), words, bank, sizeof bank);
 
-    printf("%u ", (unsigned)reply.number);
     if (reply.number == TAGCODEC_ACCEPTED) {
+        printf("0 ");
         for (size_t i = 0; i < reply.length; i++) printf("%02X", (unsigned)bank[i]);
         printf("\n");
-        return;
+    } else if (reply.number == TAGCODEC_TOO_MANY_WORDS || reply.number == TAGCODEC_TOO_FEW_WORDS) {
+        printf("%u at %u words\n", (unsigned)reply.number, (unsigned)words);
+    } else {
+        show_refused(reply, text);
     }
-    if (reply.number == TAGCODEC_TOO_MANY_WORDS || reply.number == TAGCODEC_TOO_FEW_WORDS) {
-        printf("at %u words\n", (unsigned)words);
-        return;
-    }
-    printf("at %u\n", (unsigned)reply.place);
-    for (; *text; text++) putchar(' ' <= *text && *text <= '~' ? *text : '?');
-    printf("\n%*s^\n", (int)reply.place, "");
 }
 
 static int bad_input(int argc, char **argv) {

@@ -26,19 +26,20 @@ class Shown(ctypes.Structure):
 def load(path):
     library = ctypes.CDLL(path)
     lent, number = [ctypes.c_char_p, ctypes.c_size_t], [ctypes.c_uint32]
-    for name in ("text_to_bank", "bank_to_text", "raw_line"):
+    for name in ("text_to_bank", "bank_to_text", "raw_line", "tag_to_identity", "identity_to_tag"):
         call = getattr(library, "tagcodec_" + name)
         call.argtypes, call.restype = lent + lent, Reply
     library.tagcodec_text_to_bank.argtypes = lent + number + lent
+    library.tagcodec_identity_to_tag.argtypes = lent + number + lent
     library.tagcodec_screen.argtypes = lent + lent + number
     library.tagcodec_screen.restype = Shown
     return library
 
 
-def written(call, given, *words):
-    """What a call of the library gives: its reply, and the bytes that it wrote."""
+def written(call, given, *number):
+    """What a call of the library gives: its reply, and the bytes that it wrote. A word count or a filter may be given."""
     out = ctypes.create_string_buffer(TEXT_ROOM)
-    reply = call(given, len(given), *words, out, len(out))
+    reply = call(given, len(given), *number, out, len(out))
     return reply, out.raw[: reply.length]
 
 
@@ -74,10 +75,15 @@ def show_text(library, text, words):
             print(0, bank.hex().upper())
         case 21 | 22:
             print(reply.number, "at", words, "words")
-        case number:
-            print(number, "at", reply.place)
-            print("".join(chr(byte) if 0x20 <= byte <= 0x7E else "?" for byte in text))
-            print(" " * reply.place + "^")
+        case _:
+            show_refused(reply, text)
+
+
+def show_refused(reply, text):
+    """Prints the number and the place, then the text, and a mark under the character at the place."""
+    print(reply.number, "at", reply.place)
+    print("".join(chr(byte) if 0x20 <= byte <= 0x7E else "?" for byte in text))
+    print(" " * reply.place + "^")
 
 
 def main():
@@ -97,4 +103,5 @@ def main():
             sys.exit(2)
 
 
-main()
+if __name__ == "__main__":
+    main()

@@ -3,9 +3,10 @@
 //! Prints the number of the first broken rule, 0 for none. With 0: the tag's text and how many words its bank has, or the bank. With
 //! another: the place, and for a bank the line on the screen, if there is one to show; for a text the text, and a mark under the
 //! character at the place. 21 and 22 refuse the number of words, not the text: that number stands for the place, without a mark.
+mod shown;
 mod tagcodec;
 
-use std::os::unix::ffi::OsStringExt;
+use shown::{arguments, from_decimal, printable, refused};
 use tagcodec::{Answer, Refusal, Written};
 
 fn from_hex(text: &[u8]) -> Option<Vec<u8>> {
@@ -15,18 +16,8 @@ fn from_hex(text: &[u8]) -> Option<Vec<u8>> {
     digits.chunks(2).map(byte).collect()
 }
 
-/// The value of decimal digits, if 32 bits hold it; a plus sign, which `parse` would take, is no digit.
-fn from_decimal(text: &[u8]) -> Option<u32> {
-    std::str::from_utf8(text).ok().filter(|text| !text.starts_with('+'))?.parse().ok()
-}
-
 fn hex(bytes: &[u8]) -> String {
     bytes.iter().map(|byte| format!("{byte:02X}")).collect()
-}
-
-/// The bytes as characters; one that can't be shown is a question mark.
-fn printable(bytes: &[u8]) -> String {
-    bytes.iter().map(|&byte| if (b' '..=b'~').contains(&byte) { byte.into() } else { '?' }).collect()
 }
 
 fn show_bank(bank: &[u8]) {
@@ -48,7 +39,7 @@ fn show_text(text: &[u8], words: u32) {
     match tagcodec::text_to_bank(text, words, &mut bank) {
         Ok(Written { length, .. }) => println!("0 {}", hex(&bank[..length])),
         Err(Refusal { number: number @ (21 | 22), .. }) => println!("{number} at {words} words"),
-        Err(Refusal { number, place }) => println!("{number} at {place}\n{}\n{:2$}^", printable(text), "", place as usize),
+        Err(refusal) => println!("{}", refused(refusal, text)),
     }
 }
 
@@ -64,7 +55,7 @@ fn show(given: &[Vec<u8>]) -> Option<()> {
 }
 
 fn main() {
-    let mut given: Vec<Vec<u8>> = std::env::args_os().skip(1).map(OsStringExt::into_vec).collect();
+    let mut given = arguments();
     if given.is_empty() {
         given.push("30003074257BF7194E4000001A85".into());
     }

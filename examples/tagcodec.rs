@@ -19,6 +19,8 @@ extern "C" {
     fn tagcodec_text_to_bank(text: *const u8, text_length: usize, words: u32, out: *mut u8, out_length: usize) -> Reply;
     fn tagcodec_bank_to_text(bank: *const u8, bank_length: usize, out: *mut u8, out_length: usize) -> Reply;
     fn tagcodec_raw_line(bank: *const u8, bank_length: usize, out: *mut u8, out_length: usize) -> Reply;
+    fn tagcodec_tag_to_identity(text: *const u8, text_length: usize, out: *mut u8, out_length: usize) -> Reply;
+    fn tagcodec_identity_to_tag(text: *const u8, text_length: usize, filter: u32, out: *mut u8, out_length: usize) -> Reply;
     fn tagcodec_screen(tag: *const u8, tag_length: usize, raw: *const u8, raw_length: usize, number: u32) -> Shown;
 }
 
@@ -26,7 +28,7 @@ extern "C" {
 pub const BANK_ROOM: usize = 64;
 pub const TEXT_ROOM: usize = 160;
 
-/// What was written: its length, and the word count W of the bank that was written or read.
+/// What was written: its length, and the word count W of the bank that was written or read, 0 where there was none.
 #[derive(Clone, Copy, Debug, PartialEq)]
 pub struct Written {
     pub length: usize,
@@ -60,6 +62,16 @@ pub fn bank_to_text(bank: &[u8], out: &mut [u8]) -> Answer {
 
 pub fn raw_line(bank: &[u8], out: &mut [u8]) -> Answer {
     answer(unsafe { tagcodec_raw_line(bank.as_ptr(), bank.len(), out.as_mut_ptr(), out.len()) })
+}
+
+/// The pure identity of a tag's text.
+pub fn tag_to_identity(text: &[u8], out: &mut [u8]) -> Answer {
+    answer(unsafe { tagcodec_tag_to_identity(text.as_ptr(), text.len(), out.as_mut_ptr(), out.len()) })
+}
+
+/// The text of the tag that has this identity and this filter; for gid the filter is 0.
+pub fn identity_to_tag(text: &[u8], filter: u32, out: &mut [u8]) -> Answer {
+    answer(unsafe { tagcodec_identity_to_tag(text.as_ptr(), text.len(), filter, out.as_mut_ptr(), out.len()) })
 }
 
 /// The line on the screen, a part of one of the two texts.

@@ -1,10 +1,10 @@
-/* tagcodec: RFID tag codes of sixteen GS1 EPC schemes, text to bank, bank to text, and the line on the screen.
+/* tagcodec: RFID tag codes of sixteen GS1 EPC schemes, text to bank, bank to text, the line on the screen, and pure identities.
  *
  * Every function here is proved, in Rattle, to give what docs/01-scope.md says and, for gdti-113, sgcn-96 and cpi-96, C-11 of
- * docs/02-change-requests.md, for the places its C-12, for control fields its C-13 and for banks with more words than their code
- * needs its C-15, for any bytes whatever: number, place, word count, length, and each byte of the output. The caller checks nothing
- * beforehand. No function keeps a pointer, allocates, or changes anything but the output, so all may be called from any number of
- * threads.
+ * docs/02-change-requests.md, for the places its C-12, for control fields its C-13, for banks with more words than their code needs its
+ * C-15 and for identities its C-16, for any bytes whatever: number, place, word count, length, and each byte of the output. The caller
+ * checks nothing beforehand. No function keeps a pointer, allocates, or changes anything but the output, so all may be called from any
+ * number of threads.
  *
  * What the caller owes, because C can't check it:
  *   - each pointer is valid for the length beside it (NULL will do where that length is 0);
@@ -34,7 +34,7 @@ enum tagcodec_number {
 
     TAGCODEC_OUTPUT_TOO_SHORT = 1, /* output shorter than 64 bytes (bank) or 160 bytes (text) */
 
-    /* text to bank */
+    /* text to bank; tag to identity gives only 1, 2, 20 and 3 to 8 */
     TAGCODEC_TOO_MANY_WORDS = 21, /* the W asked for is above 31, whatever the text */
     TAGCODEC_START = 2,           /* does not begin with `urn:epc:tag:` */
     TAGCODEC_CONTROL_FIELDS = 20, /* `[` follows, but not `[umi=1]`, or `[att=xNN]` with two upper-case hex digits that are not 00, or
@@ -60,19 +60,25 @@ enum tagcodec_number {
     TAGCODEC_PARTITION = 16,          /* partition value is 7 */
     TAGCODEC_PREFIX_TOO_LARGE = 17,   /* prefix is 10^digits or more */
     TAGCODEC_REFERENCE_TOO_LARGE = 18, /* reference is 10^digits or more; with 0 digits, not 0 */
-    TAGCODEC_STRING = 19              /* string begins with a zero, has a nonzero group after a zero, or a group that is no character;
+    TAGCODEC_STRING = 19,             /* string begins with a zero, has a nonzero group after a zero, or a group that is no character;
                                          for gdti-113 and sgcn-96, the integer is not a 1 and 1 to 17 or 12 digits */
+
+    /* identity to tag */
+    TAGCODEC_IDENTITY = 23,     /* not an identity of a listed family (below) */
+    TAGCODEC_GIVEN_FILTER = 24, /* the filter is above 7, or not 0 for gid */
+    TAGCODEC_NO_SCHEME = 25     /* no scheme holds it: a prefix that is not 6 to 12 digits, a part that is too large or too long, or a giai
+                                   or cpi reference that is no integer */
 };
 
-/* What a call gives. Accepted: number 0, place 0, in `words` the W of the bank that was written or read, and the length written from the
- * output's start on; bytes past it are unchanged. Refused: the number, its place, words 0, length 0, and every byte of the output
- * unchanged.
+/* What a call gives. Accepted: number 0, place 0, in `words` the W of the bank that was written or read, 0 where there was none, and the
+ * length written from the output's start on; bytes past it are unchanged. Refused: the number, its place, words 0, length 0, and every
+ * byte of the output unchanged.
  *
  * The place says where. In a text it is an offset in bytes, from 0: that of the first character of the part that was refused. Where the
  * part is missing, that is where it would begin, which may be the text's length. In a bank it is the address of the first bit of the part
  * that was refused: the bank's first bit is 10h, and the first bit of its code 20h. 16 bits hold any place.
  *
- *   0, 1, 21, 22    0
+ *   0, 1, 21 to 25  0
  *   2               0
  *   20              the offset of the first control field that is wrong, or where the colon behind the last should stand
  *   3               where the name begins: 12, or behind control fields and their colon 20, 22 or 29
@@ -111,6 +117,28 @@ tagcodec_reply tagcodec_bank_to_text(const uint8_t *bank, size_t bank_length, ui
 /* The raw line of a bank, `urn:epc:raw:` and so on, whatever its code is: numbers 0, 1, 9 and 10. At most 145 characters, and no zero
  * behind them. */
 tagcodec_reply tagcodec_raw_line(const uint8_t *bank, size_t bank_length, uint8_t *out, size_t out_length);
+
+/* An identity is `urn:epc:id:`, a family, a colon, and its components with dots between them:
+ *
+ *   sgtin               prefix.reference.string   prefix and reference have 13 digits together, each one or more
+ *   sgln, grai, gdti    prefix.reference.string   12 together; the reference may be empty
+ *   sgcn                prefix.reference.serial   12 together; the reference may be empty; the serial has 1 to 12 digits
+ *   sscc, gsrn, gsrnp   prefix.reference          17 together, each one or more
+ *   giai                prefix.string
+ *   cpi                 prefix.reference.integer  the reference is one or more of 0-9, A-Z, `-`, `%23` and `%2F`
+ *   gid                 integer.integer.integer
+ *
+ * A prefix has one digit or more, and no string, no integer and no cpi reference has a limit here: what is too long or too large for every
+ * scheme is refused with 25. A string has the characters and escapes of a tag's text, and is not empty; an integer has no leading zero.
+ *
+ * The text of a tag to its identity: numbers 0 to 8 and 20, with the same places as text to bank. Control fields, filter and the choice
+ * between 96 bits and more are left out. At most 92 characters, and no zero behind them. */
+tagcodec_reply tagcodec_tag_to_identity(const uint8_t *text, size_t text_length, uint8_t *out, size_t out_length);
+
+/* An identity and the filter that its tag is to have to the text of that tag: numbers 0, 1 and 23 to 25. The scheme is the family's of 96
+ * bits if that holds the identity, else sgtin-198, sgln-195, grai-170 or gdti-174; gdti-113 is never chosen. gid has no filter, and takes
+ * only 0. The text has no control fields and at most 99 characters, and no zero is written behind it; its identity is the one given. */
+tagcodec_reply tagcodec_identity_to_tag(const uint8_t *text, size_t text_length, uint32_t filter, uint8_t *out, size_t out_length);
 
 /* The two texts that a line on the screen can be a part of. */
 enum tagcodec_text {

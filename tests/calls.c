@@ -1,19 +1,6 @@
-/* Every exported call from C: document 01's known tags, tags with control fields, banks with further words, the place of every number,
+/* The calls on tags and banks from C: document 01's known tags, tags with control fields, banks with further words, the place of every number,
  * each output byte, and the lengths and pointers at the edge. */
-#include <stdio.h>
-#include <string.h>
-
-#include "tagcodec.h"
-
-enum { TOLD = 40 };
-static int compared, wrong;
-
-/* Tells the first that are wrong; the last line says how many are. */
-static void expect(int right, const char *what, const char *of) {
-    compared++;
-    if (right) return;
-    if (wrong++ < TOLD) printf("wrong: %s: %s\n", what, of);
-}
+#include "expect.h"
 
 static size_t from_hex(const char *hex, uint8_t *bytes) {
     size_t n = strlen(hex) / 2;
@@ -28,34 +15,6 @@ static size_t from_hex(const char *hex, uint8_t *bytes) {
 /* W, the five bits that a bank begins with. */
 static uint32_t words_of(const uint8_t *bank) {
     return bank[0] >> 3;
-}
-
-enum { UNTOUCHED = 0xA5 };
-static uint8_t out[2 * TAGCODEC_TEXT_ROOM];
-
-/* The output before a call; it goes on behind what is lent of it. */
-static uint8_t *fresh(void) {
-    return memset(out, UNTOUCHED, sizeof out);
-}
-
-static tagcodec_reply accepted(uint32_t words, size_t length) {
-    return (tagcodec_reply){.words = (uint16_t)words, .length = length};
-}
-
-static tagcodec_reply refused(uint32_t number, uint32_t place) {
-    return (tagcodec_reply){.number = number, .place = (uint16_t)place};
-}
-
-/* The call gave this reply, and exactly these bytes before others that are unchanged. */
-static void gives(tagcodec_reply given, tagcodec_reply expected, const void *bytes, const char *of) {
-    uint8_t untouched[sizeof out];
-    memset(untouched, UNTOUCHED, sizeof untouched);
-    expect(given.number == expected.number, "number", of);
-    expect(given.place == expected.place, "place", of);
-    expect(given.words == expected.words, "words", of);
-    expect(given.length == expected.length, "length", of);
-    expect(memcmp(out, bytes, expected.length) == 0, "bytes", of);
-    expect(memcmp(out + expected.length, untouched, sizeof out - expected.length) == 0, "bytes past the length", of);
 }
 
 static tagcodec_reply to_bank(const char *t, uint32_t words) {
@@ -328,6 +287,5 @@ int main(void) {
     edges();
     longer_outputs();
     screen();
-    printf("%d compared, %d wrong\n", compared, wrong);
-    return wrong != 0;
+    return told();
 }

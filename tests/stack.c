@@ -1,6 +1,7 @@
-/* How much stack a call takes: the lines of standard input, texts and banks in hexadecimal, and texts of a megabyte go through each call
- * above a stack that is painted beforehand; what is no longer painted was used. A text goes to its smallest bank and to one of 31 words,
- * and the larger figure counts. Fails where a call takes more than BOUND bytes, or more on a megabyte than on the lines. */
+/* How much stack a call takes: the lines of standard input, texts, identities behind a digit and a space, and banks in hexadecimal, and
+ * texts of a megabyte go through each call above a stack that is painted beforehand; what is no longer painted was used. A text goes to its
+ * smallest bank and to one of 31 words, and the larger figure counts. Fails where a call takes more than BOUND bytes, or more on a megabyte
+ * than on the lines. */
 #include <pthread.h>
 #include <stdio.h>
 #include <string.h>
@@ -37,8 +38,24 @@ static tagcodec_reply to_longest(const uint8_t *tag, size_t length, uint8_t *out
     return tagcodec_text_to_bank(tag, length, TAGCODEC_MOST_WORDS, out, out_length);
 }
 
-static size_t most_to_bank(size_t before, const uint8_t *tag, size_t length) {
-    return most(most(before, to_smallest, tag, length), to_longest, tag, length);
+static tagcodec_reply to_tag(const uint8_t *identity, size_t length, uint8_t *out, size_t out_length) {
+    return tagcodec_identity_to_tag(identity, length, 0, out, out_length);
+}
+
+/* The most bytes that each call took. */
+typedef struct {
+    size_t bank, identity, tag, shown, raw;
+} bytes;
+
+static void on_text(bytes *before, const uint8_t *tag, size_t length) {
+    before->bank = most(most(before->bank, to_smallest, tag, length), to_longest, tag, length);
+    before->identity = most(before->identity, tagcodec_tag_to_identity, tag, length);
+    before->tag = most(before->tag, to_tag, tag, length);
+}
+
+static void on_bank(bytes *before, const uint8_t *bank, size_t length) {
+    before->shown = most(before->shown, tagcodec_bank_to_text, bank, length);
+    before->raw = most(before->raw, tagcodec_raw_line, bank, length);
 }
 
 /* A bank in hexadecimal, in place; any other line is left as it is. */
@@ -51,37 +68,46 @@ static size_t in_bytes(uint8_t *line, size_t length) {
     return length / 2;
 }
 
-static size_t on_a_megabyte(void) {
+static bytes on_a_megabyte(void) {
     static const char *const STRING = "urn:epc:tag:sgtin-198:3.0614141.712345.", *const SERIAL = "urn:epc:tag:sgtin-96:3.0614141.712345.",
-                      *const START = "urn:epc:tag:", *const FIELDS = "urn:epc:tag:[umi=1][att=xFF]:sgtin-198:3.0614141.712345.";
+                      *const START = "urn:epc:tag:", *const FIELDS = "urn:epc:tag:[umi=1][att=xFF]:sgtin-198:3.0614141.712345.",
+                      *const IDENTITY = "urn:epc:id:sgtin:0614141.712345.", *const PART = "urn:epc:id:cpi:0614141.",
+                      *const PREFIX = "urn:epc:id:sscc:";
     const struct {
         const char *begun, *repeated;
     } hostile[] = {{STRING, "%2F"}, {STRING, "A"}, {STRING, "%"}, {STRING, "."}, {STRING, "a%22"}, {SERIAL, "9"},
-                   {FIELDS, "%2F"}, {START, "[umi=1]"}, {START, "[att=x01]"}, {START, "["}};
-    size_t bytes = 0;
+                   {FIELDS, "%2F"}, {START, "[umi=1]"}, {START, "[att=x01]"}, {START, "["}, {IDENTITY, "%2F"}, {IDENTITY, "A"},
+                   {IDENTITY, "."}, {IDENTITY, "a%22"}, {IDENTITY, "9"}, {PART, "%2F"}, {PART, "A%23"}, {PART, "9"}, {PREFIX, "9"}};
+    bytes found = {0};
     for (size_t i = 0; i < sizeof hostile / sizeof hostile[0]; i++) {
         size_t at = strlen(hostile[i].begun);
         memcpy(text, hostile[i].begun, at);
         for (size_t n = 0; at < LONG; n++) text[at++] = (uint8_t)hostile[i].repeated[n % strlen(hostile[i].repeated)];
-        bytes = most_to_bank(bytes, text, LONG);
+        on_text(&found, text, LONG);
     }
-    return bytes;
+    return found;
 }
 
-static void *measure(void *failed) {
-    size_t read = fread(lines, 1, LINES, stdin), bank = 0, shown = 0, raw = 0;
+static bytes on_lines(size_t read) {
+    bytes found = {0};
     for (size_t at = 0, next; at < read; at = next) {
         const uint8_t *end = memchr(lines + at, '\n', read - at);
         size_t length = (end ? (size_t)(end - lines) : read) - at;
         next = at + length + 1;
-        bank = most_to_bank(bank, lines + at, length);
+        size_t begun = length > 1 && lines[at + 1] == ' ' ? 2 : 0;
+        on_text(&found, lines + at + begun, length - begun);
         length = in_bytes(lines + at, length);
-        shown = most(shown, tagcodec_bank_to_text, lines + at, length);
-        raw = most(raw, tagcodec_raw_line, lines + at, length);
+        on_bank(&found, lines + at, length);
     }
-    size_t hostile = on_a_megabyte();
-    printf("stack: text_to_bank %zu bytes, on a megabyte %zu; bank_to_text %zu; raw_line %zu\n", bank, hostile, shown, raw);
-    *(int *)failed = hostile > bank || bank > BOUND || shown > BOUND || raw > BOUND;
+    return found;
+}
+
+static void *measure(void *failed) {
+    bytes on = on_lines(fread(lines, 1, LINES, stdin)), hostile = on_a_megabyte();
+    printf("stack: text_to_bank %zu bytes, on a megabyte %zu; bank_to_text %zu; raw_line %zu; ", on.bank, hostile.bank, on.shown, on.raw);
+    printf("tag_to_identity %zu, %zu; identity_to_tag %zu, %zu\n", on.identity, hostile.identity, on.tag, hostile.tag);
+    *(int *)failed = hostile.bank > on.bank || hostile.identity > on.identity || hostile.tag > on.tag || on.bank > BOUND ||
+                     on.identity > BOUND || on.tag > BOUND || on.shown > BOUND || on.raw > BOUND;
     return NULL;
 }
 
