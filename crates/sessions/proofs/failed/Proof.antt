@@ -6,9 +6,9 @@ use lib.Signed.{ltZ}
 use mir.Syntax.{w64}
 use mir.Facts.{toZ-ofZ}
 use borrow.Author.Tests.{le-ltb}
-use Rattle.tagline.specs.Runs.{negative}
-use Rattle.tagline.proofs.failed.Statement.{statement}
-use Rattle.tagline.proofs.failed.Tie as tie
+use Rattle.sessions.specs.Runs.{negative}
+use Rattle.sessions.proofs.failed.Statement.{statement}
+use Rattle.sessions.proofs.failed.Tie as tie
 
 sign : (z : ℤ) → ltZ z (pos 0) ≡ negative z
 sign (pos k) = le-ltb k 0 (omega arith)

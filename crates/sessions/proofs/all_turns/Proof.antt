@@ -6,10 +6,10 @@ use native.Mathlib.Omega.{arith}
 use lib.ListN.{length}
 use borrow.Author.Needs.{needs}
 use borrow.Author.Tests.{eqb-true, eqb-false, not-true, not-false}
-use Rattle.tagline.specs.Runs.{mostReads}
-use Rattle.tagline.proofs.Runs.{Going, at-start, reads-on, stops}
-use Rattle.tagline.proofs.all_turns.Statement.{statement}
-use Rattle.tagline.proofs.all_turns.Tie as tie
+use Rattle.sessions.specs.Runs.{mostReads}
+use Rattle.sessions.proofs.Runs.{Going, at-start, reads-on, stops}
+use Rattle.sessions.proofs.all_turns.Statement.{statement}
+use Rattle.sessions.proofs.all_turns.Tie as tie
 
 abbrev Inv-loop : tie.InvT-loop
 Inv-loop input₀ out₀ kept₀ reads₀ input out kept reads = (length input ≡ length input₀) × (length out ≡ length out₀) × Going input kept reads

@@ -1,6 +1,6 @@
 -- The turns of the program. Of `read` the toolchain promises that it answers -1, or a number of bytes that the buffer holds; of the bytes it
 -- says nothing. So what is said here of a read holds for some bytes: those that it gave.
-use Prim.Native.Nat.{ℕ, suc, _-_, _^_}
+use Prim.Native.Nat.{ℕ, suc, _+_, _*_, _-_, _^_}
 use mathlib.Core.Path.{_≡_}
 use mathlib.Core.Logic.{_⊎_}
 use mathlib.Core.List.{List, [], _∷_, _++_}
@@ -8,9 +8,15 @@ use mathlib.Core.Bool.{Bool, true, false}
 use lib.IntN.{ℤ, pos, negsuc}
 use lib.ListN.{length, take, drop}
 use Rattle.io.specs.Counts.{clamped}
+use Rattle.replies.specs.Writing.{replyRoom}
+use Rattle.lines.specs.Lines.{growth}
 use Rattle.lines.specs.Turns.{Turn, turnOf, session}
-use Rattle.tagline.specs.declared.After.{After}
-use Rattle.tagline.specs.declared.Stopped.{Stopped}
+use Rattle.sessions.specs.declared.After.{After}
+use Rattle.sessions.specs.declared.Stopped.{Stopped}
+
+-- the room for the replies to an input of 65536 bytes, the most that the buffer holds
+abbrev pub fullRoom : ℕ
+fullRoom = growth * 65536 + replyRoom
 
 -- what a read gave that answered `got`, and put its bytes behind the first n of the buffer
 abbrev pub given : ℤ → ℕ → List ℕ → List ℕ

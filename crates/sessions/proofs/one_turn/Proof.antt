@@ -6,9 +6,9 @@ use borrow.Author.Needs.{needs}
 use mir.Syntax.{w64}
 use mir.Val.{toZ, ofZ}
 use Rattle.replies.proofs.Pieces.{wrote-within}
-use Rattle.tagline.proofs.Runs.{for-some, for-none}
-use Rattle.tagline.proofs.one_turn.Statement.{statement}
-use Rattle.tagline.proofs.one_turn.Tie as tie
+use Rattle.sessions.proofs.Runs.{for-some, for-none}
+use Rattle.sessions.proofs.one_turn.Statement.{statement}
+use Rattle.sessions.proofs.one_turn.Tie as tie
 
 within : tie.Need-slice-reshare-prefix-write-all
 within c = let t = c .before .before .before .before .turn-for in wrote-within _ _ _ _ (t .ensures .printed) (t .kept .1 .1 .1 .0)

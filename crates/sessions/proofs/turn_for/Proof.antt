@@ -8,9 +8,9 @@ use mir.Syntax.{w64}
 use mir.Facts.{toZ-ofZ}
 use borrow.Author.Needs.{needs}
 use Rattle.io.specs.Counts.{clamped}
-use Rattle.tagline.proofs.Runs.{for-given}
-use Rattle.tagline.proofs.turn_for.Statement.{statement}
-use Rattle.tagline.proofs.turn_for.Tie as tie
+use Rattle.sessions.proofs.Runs.{for-given}
+use Rattle.sessions.proofs.turn_for.Statement.{statement}
+use Rattle.sessions.proofs.turn_for.Tie as tie
 
 -- `got` is handed on as it is
 counted : (c : tie.After-count) → let s = c .before .before .before .before .before in

@@ -17,9 +17,9 @@ use Rattle.lines.specs.declared.Turned.{Turned}
 use Rattle.replies.proofs.Pieces.{back, wrote-begins}
 use Rattle.lines.proofs.Turns.{on-buffer, few-kept}
 use Rattle.lines.proofs.Sessions.{in-pieces, one-more}
-use Rattle.tagline.specs.declared.After.{After}
-use Rattle.tagline.specs.declared.Stopped.{Stopped}
-use Rattle.tagline.specs.Runs.{given, Taken, OneTurn, mostReads, Ran}
+use Rattle.sessions.specs.declared.After.{After}
+use Rattle.sessions.specs.declared.Stopped.{Stopped}
+use Rattle.sessions.specs.Runs.{given, Taken, OneTurn, mostReads, Ran}
 
 true-is-not-false : true ≡ false → ⊥
 true-is-not-false h = let z : _≡_ {A = ℕ} 0 1 = cc in absurd (omega arith)
