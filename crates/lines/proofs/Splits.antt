@@ -12,6 +12,7 @@ use Rattle.rules.specs.Bytes.{among, upto, behind}
 use Rattle.rules.proofs.Tests.{is-false, both, and}
 use Rattle.rules.proofs.Runs.{run-is, without, among-of}
 use Rattle.digits.proofs.Runs.{drop-next}
+use Rattle.replies.specs.declared.Program.{Program}
 use Rattle.lines.specs.Lines.{feed, linesOf, printed, outputOf}
 use Rattle.lines.specs.Turns.{finished, whole, endReply}
 
@@ -68,14 +69,14 @@ alone : (x : ℕ) (l : List ℕ) → Unfed (x ∷ l) → linesOf (x ∷ l) ≡ (
 alone x [] h = rw (is-false (eqb feed x) (both (not (eqb feed x)) true h .0))
 alone x (y ∷ l) h = let (p, q) = both (not (eqb feed x)) (without feed (y ∷ l)) h in rw (is-false (eqb feed x) p, alone y l q)
 
-pub last-line : (l : List ℕ) → Unfed l → outputOf l ≡ endReply l
+pub last-line : (π : Program) (l : List ℕ) → Unfed l → outputOf π l ≡ endReply π l
 unfolding outputOf
-last-line [] h = refl
-last-line (x ∷ l) h = rw (alone x l h) (append-nil (printed (x ∷ l)))
+last-line π [] h = refl
+last-line π (x ∷ l) h = rw (alone x l h) (append-nil (printed π (x ∷ l)))
 
-pub no-output : outputOf [] ≡ []
+pub no-output : (π : Program) → outputOf π [] ≡ []
 unfolding outputOf
-no-output = refl
+no-output π = refl
 
 -- What has ended.
 pub none-ended : (l : List ℕ) → Unfed l → whole l ≡ []
@@ -84,9 +85,9 @@ none-ended [] h = refl
 none-ended (x ∷ l) h = rw (not-among (x ∷ l) h)
 
 module _ (l r : List ℕ) (h : Unfed l) where
-  pub first-output : outputOf (l ++ feed ∷ r) ≡ printed l ++ outputOf r
+  pub first-output : (π : Program) → outputOf π (l ++ feed ∷ r) ≡ printed π l ++ outputOf π r
   unfolding outputOf
-  first-output = rw (first-line r l h)
+  first-output π = rw (first-line r l h)
 
   pub first-ended : whole (l ++ feed ∷ r) ≡ l ++ feed ∷ whole r
   unfolding whole
@@ -114,8 +115,8 @@ module _ (t : List ℕ) (at end : ℕ) (place : end ≡ at + length (upto feed (
     pub ended-is : whole (drop at t) ≡ upto feed (drop at t) ++ feed ∷ whole (drop (end + 1) t)
     ended-is = ap whole line-is ∙ first-ended (upto feed (drop at t)) (behind feed (drop at t)) (upto-unfed (drop at t)) ∙ ap (λ r. upto feed (drop at t) ++ feed ∷ whole r) (sym the-rest)
 
-    pub output-is : outputOf (whole (drop at t)) ≡ printed (upto feed (drop at t)) ++ outputOf (whole (drop (end + 1) t))
-    output-is = ap outputOf ended-is ∙ first-output (upto feed (drop at t)) (whole (drop (end + 1) t)) (upto-unfed (drop at t))
+    pub output-is : (π : Program) → outputOf π (whole (drop at t)) ≡ printed π (upto feed (drop at t)) ++ outputOf π (whole (drop (end + 1) t))
+    output-is π = ap (outputOf π) ended-is ∙ first-output (upto feed (drop at t)) (whole (drop (end + 1) t)) (upto-unfed (drop at t)) π
 
 -- Where it ends, byte by byte.
 module _ (t : List ℕ) (i : ℕ) where

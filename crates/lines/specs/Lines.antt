@@ -4,8 +4,9 @@ use mathlib.Core.List.{List, [], _∷_, _++_}
 use mathlib.Core.Bool.{cond}
 use lib.Dec.{leb, eqb}
 use lib.ListN.{length}
-use Rattle.replies.specs.Replies.{replyOf}
+use Rattle.replies.specs.Programs.{replyOf}
 use Rattle.replies.specs.Writing.{replyRoom}
+use Rattle.replies.specs.declared.Program.{Program}
 
 abbrev pub feed : ℕ
 feed = 0x0A
@@ -20,18 +21,18 @@ abbrev pub linesOf : List ℕ → List (List ℕ)
 linesOf [] = []
 linesOf (x ∷ xs) = let r = linesOf xs in cond (eqb feed x) ([] ∷ r) (before x r)
 
--- the reply to a line, with a line feed
-abbrev pub printed : List ℕ → List ℕ
-printed l = replyOf l ++ (feed ∷ [])
+-- a program's reply to a line, with a line feed
+abbrev pub printed : Program → List ℕ → List ℕ
+printed π l = replyOf π l ++ (feed ∷ [])
 
 -- the replies to lines, one after the other
-abbrev pub each : List (List ℕ) → List ℕ
-each [] = []
-each (l ∷ ls) = printed l ++ each ls
+abbrev pub each : Program → List (List ℕ) → List ℕ
+each π [] = []
+each π (l ∷ ls) = printed π l ++ each π ls
 
 -- the replies to all lines of an input
-unfoldable pub outputOf : List ℕ → List ℕ
-outputOf input = each (linesOf input)
+unfoldable pub outputOf : Program → List ℕ → List ℕ
+outputOf π input = each π (linesOf input)
 
 -- WRITING
 

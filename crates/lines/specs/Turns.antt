@@ -7,6 +7,7 @@ use lib.ListN.{length, take, drop}
 use Rattle.rules.specs.Bytes.{among}
 use Rattle.replies.specs.Replies.{mostCharacters}
 use Rattle.replies.specs.Writing.{Wrote}
+use Rattle.replies.specs.declared.Program.{Program}
 use Rattle.lines.specs.Lines.{feed, printed, outputOf, ifRoom, inputRoom}
 use Rattle.lines.specs.declared.Turned.{Turned}
 
@@ -28,29 +29,29 @@ abbrev pub kept : ℕ → List ℕ → List ℕ
 kept from input = take mostKept (drop from input)
 
 -- at the end of the input the bytes behind its last line feed, if any, are a line too
-abbrev pub endReply : List ℕ → List ℕ
-endReply [] = []
-endReply (x ∷ xs) = printed (x ∷ xs)
+abbrev pub endReply : Program → List ℕ → List ℕ
+endReply π [] = []
+endReply π (x ∷ xs) = printed π (x ∷ xs)
 
--- One turn: what it prints, what it keeps for the next one, and whether the input has ended.
+-- One turn of a program: what it prints, what it keeps for the next one, and whether the input has ended.
 pub record Turn : Type 0 where
   pub prints : List ℕ
   pub keeps : List ℕ
   pub ends : Bool
 
 -- the turn for the bytes that were kept and those then read; a read that gives nothing is the end of the input
-abbrev pub turnOf : List ℕ → List ℕ → Turn
-turnOf rest [] = record { prints = endReply rest; keeps = []; ends = true }
-turnOf rest (x ∷ read) =
+abbrev pub turnOf : Program → List ℕ → List ℕ → Turn
+turnOf π rest [] = record { prints = endReply π rest; keeps = []; ends = true }
+turnOf π rest (x ∷ read) =
     let input = rest ++ x ∷ read in
-    record { prints = outputOf (whole input); keeps = kept (length (whole input)) input; ends = false }
+    record { prints = outputOf π (whole input); keeps = kept (length (whole input)) input; ends = false }
 
 -- turn after turn, a read for each, up to the end of the input: all that is printed, and what is kept in the end
-abbrev pub session : List ℕ → List (List ℕ) → Turn
-session rest [] = record { prints = []; keeps = rest; ends = false }
-session rest (read ∷ reads) =
-    let t = turnOf rest read in
-    let s = session (t .keeps) reads in
+abbrev pub session : Program → List ℕ → List (List ℕ) → Turn
+session π rest [] = record { prints = []; keeps = rest; ends = false }
+session π rest (read ∷ reads) =
+    let t = turnOf π rest read in
+    let s = session π (t .keeps) reads in
     cond (t .ends) t (record { prints = t .prints ++ s .prints; keeps = s .keeps; ends = s .ends })
 
 -- the input: what the reads give, up to the first that gives nothing
@@ -62,8 +63,8 @@ inputOf ((x ∷ read) ∷ reads) = (x ∷ read) ++ inputOf reads
 -- A CALL
 
 -- the turn for an input of which the first n bytes were kept, and the others read
-abbrev pub turnAt : ℕ → List ℕ → Turn
-turnAt n input = turnOf (take n input) (drop n input)
+abbrev pub turnAt : Program → ℕ → List ℕ → Turn
+turnAt π n input = turnOf π (take n input) (drop n input)
 
 -- what a call looks at: the input, if the output has the room for its replies; no bytes, if it is shorter
 abbrev pub seen : List ℕ → List ℕ → List ℕ

@@ -1,5 +1,6 @@
-// The lines of tagline (document 01), each to its reply; and the turns of a session, in which an input is read in pieces of any size. Nothing
+// The lines of a program (document 01), each to its reply; and the turns of a session, in which an input is read in pieces of any size. Nothing
 // here reads or writes: a program does, and hands over what each read gave.
+use replies::Program;
 pub use replies::REPLY_ROOM;
 ghost use mathlib.Core.Path.{_≡_};
 ghost use Prim.Native.Nat.{_+_, _*_, _≤_};
@@ -17,26 +18,26 @@ pub const GROWTH: usize = 4;
 const MOST_KEPT: usize = replies::MOST_CHARACTERS + 1;
 
 // Writes the reply to a line, with a line feed, at the output's start, and answers its length. An output shorter than `REPLY_ROOM` gets nothing.
-pub fn reply(line: &[u8], out: &mut [u8]) -> usize
-    ensures { λ r. ⌜ Wrote (ifRoom replyRoom (now (out .entry)) (printed (now (line .entry)))) (now (out .entry)) r (now (out .exit)) ⌝ }
+pub fn reply(program: Program, line: &[u8], out: &mut [u8]) -> usize
+    ensures { λ r. ⌜ Wrote (ifRoom replyRoom (now (out .entry)) (printed program (now (line .entry)))) (now (out .entry)) r (now (out .exit)) ⌝ }
 {
     if out.len() < REPLY_ROOM {
         return 0;
     }
-    let n = replies::write(line, out);
+    let n = replies::write(program, line, out);
     out[n] = b'\n';
     n + 1
 }
 
 // Writes the reply to the bytes behind the input's last line feed, if there are any.
-fn end_reply(rest: &[u8], out: &mut [u8]) -> usize
+fn end_reply(program: Program, rest: &[u8], out: &mut [u8]) -> usize
     requires { ⌜ replyRoom ≤ length (now out) ⌝ }
-    ensures { λ r. ⌜ Wrote (endReply (now (rest .entry))) (now (out .entry)) r (now (out .exit)) ⌝ }
+    ensures { λ r. ⌜ Wrote (endReply program (now (rest .entry))) (now (out .entry)) r (now (out .exit)) ⌝ }
 {
     if rest.len() == 0 {
         return 0;
     }
-    reply(rest, out)
+    reply(program, rest, out)
 }
 
 // Where the line ends that begins at `from`: at the next line feed, or at the end of the input.
@@ -60,16 +61,16 @@ struct Done {
 }
 
 // Writes the replies to all lines of the input that have ended, one after the other from the output's start on.
-fn answer_ended(input: &[u8], out: &mut [u8]) -> Done
+fn answer_ended(program: Program, input: &[u8], out: &mut [u8]) -> Done
     requires { ⌜ inputRoom (now input) ≤ length (now out) ⌝ }
     ensures { λ r. ⌜ r .read ≡ length (whole (now (input .entry))) ⌝ }
-    ensures { λ r. ⌜ Wrote (outputOf (whole (now (input .entry)))) (now (out .entry)) (r .written) (now (out .exit)) ⌝ }
+    ensures { λ r. ⌜ Wrote (outputOf program (whole (now (input .entry)))) (now (out .entry)) (r .written) (now (out .exit)) ⌝ }
 {
     let mut read = 0;
     let mut written = 0;
     let mut end = line_end(input, 0);
     while end < input.len() {
-        written += reply(&input[read..end], &mut out[written..]);
+        written += reply(program, &input[read..end], &mut out[written..]);
         read = end + 1;
         end = line_end(input, read);
     }
@@ -112,8 +113,8 @@ pub struct Turned {
 // One turn of a session. The first `kept` bytes of the input are those that the turn before kept, and the others were just read. If there are
 // no others, the input has ended. An output shorter than `GROWTH` times the input and `REPLY_ROOM` more gets nothing: the turn is then that of
 // an empty input, and so the last.
-pub fn turn(input: &mut [u8], kept: usize, out: &mut [u8]) -> Turned
-    ensures { λ r. ⌜ Took (turnAt kept (seen (now (input .entry)) (now (out .entry)))) (now (input .entry)) (now (out .entry)) r (now (input .exit)) (now (out .exit)) ⌝ }
+pub fn turn(program: Program, input: &mut [u8], kept: usize, out: &mut [u8]) -> Turned
+    ensures { λ r. ⌜ Took (turnAt program kept (seen (now (input .entry)) (now (out .entry)))) (now (input .entry)) (now (out .entry)) r (now (input .exit)) (now (out .exit)) ⌝ }
 {
     if !has_room(input.len(), out.len()) {
         return Turned {
@@ -123,14 +124,14 @@ pub fn turn(input: &mut [u8], kept: usize, out: &mut [u8]) -> Turned
         };
     }
     if input.len() <= kept {
-        let written = end_reply(input, out);
+        let written = end_reply(program, input, out);
         return Turned {
             kept: 0,
             written,
             ended: true,
         };
     }
-    let done = answer_ended(input, out);
+    let done = answer_ended(program, input, out);
     let held = hold(input, done.read);
     Turned {
         kept: held,

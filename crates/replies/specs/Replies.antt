@@ -1,4 +1,4 @@
--- The reply to one line: `B`, `T`, `R`, `N` or `X`.
+-- tagline's reply to one line: `B`, `T`, `R`, `N` or `X`.
 use Prim.Native.Nat.{ℕ}
 use Prim.Native.Char.{code}
 use mathlib.Core.Path.{_≡_}
@@ -79,5 +79,5 @@ bankReply (some b) = ofBank b (tagOfBank b)
 bankReply none = replyX
 
 -- to any line
-unfoldable pub replyOf : List ℕ → List ℕ
-replyOf l = cond (begun (after (bytes "urn:") l)) (textReply l) (bankReply (bankIn l))
+unfoldable pub taglineReply : List ℕ → List ℕ
+taglineReply l = cond (begun (after (bytes "urn:") l)) (textReply l) (bankReply (bankIn l))

@@ -1,4 +1,4 @@
-// The reply to one line (document 01): to a tag text, to a bank in hex, or to neither. Each function writes it at the output's start and
+// tagline's reply to one line (document 01): to a tag text, to a bank in hex, or to neither. Each function writes it at the output's start and
 // answers its length.
 use super::hex;
 use super::letters::AFTER_LETTER;
@@ -13,7 +13,7 @@ ghost use Prim.Native.Nat.{_≤_};
 ghost use lib.ListN.{length};
 ghost use Rattle.rules.specs.BankNumbers.{tagOfBank};
 ghost use Rattle.replies.specs.Hex.{bankIn};
-ghost use Rattle.replies.specs.Replies.{RefusedWith, ofBank, textReply, bankReply, replyOf};
+ghost use Rattle.replies.specs.Replies.{RefusedWith, ofBank, textReply, bankReply, taglineReply};
 ghost use Rattle.replies.specs.Writing.{Wrote, replyRoom};
 
 // A line that begins `urn:` has at most so many characters.
@@ -88,7 +88,7 @@ fn hex_reply(line: &[u8], out: &mut [u8]) -> usize
 // The reply to any line, without a line feed.
 pub fn write(line: &[u8], out: &mut [u8]) -> usize
     requires { ⌜ replyRoom ≤ length (now out) ⌝ }
-    ensures { λ r. ⌜ Wrote (replyOf (now (line .entry))) (now (out .entry)) r (now (out .exit)) ⌝ }
+    ensures { λ r. ⌜ Wrote (taglineReply (now (line .entry))) (now (out .entry)) r (now (out .exit)) ⌝ }
 {
     if digits::begins(line, b"urn:") {
         return text_reply(line, out);

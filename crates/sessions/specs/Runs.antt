@@ -1,4 +1,4 @@
--- The turns of the program. Of `read` the toolchain promises that it answers -1, or a number of bytes that the buffer holds; of the bytes it
+-- The turns of a program. Of `read` the toolchain promises that it answers -1, or a number of bytes that the buffer holds; of the bytes it
 -- says nothing. So what is said here of a read holds for some bytes: those that it gave.
 use Prim.Native.Nat.{ℕ, suc, _+_, _*_, _-_, _^_}
 use mathlib.Core.Path.{_≡_}
@@ -9,6 +9,7 @@ use lib.IntN.{ℤ, pos, negsuc}
 use lib.ListN.{length, take, drop}
 use Rattle.io.specs.Counts.{clamped}
 use Rattle.replies.specs.Writing.{replyRoom}
+use Rattle.replies.specs.declared.Program.{Program}
 use Rattle.lines.specs.Lines.{growth}
 use Rattle.lines.specs.Turns.{Turn, turnOf, session}
 use Rattle.sessions.specs.declared.After.{After}
@@ -39,9 +40,9 @@ pub record Taken (t : Turn) (r : After) (input out : List ℕ) : Type 0 where
   pub ended : r .ended ≡ t .ends
 
 -- One turn of the program is the session's turn for some bytes that were read. A read that failed is not the end of the input.
-pub record OneTurn (rest : List ℕ) (r : After) (input out : List ℕ) : Type 0 where
+pub record OneTurn (π : Program) (rest : List ℕ) (r : After) (input out : List ℕ) : Type 0 where
   pub read : List ℕ
-  pub taken : r .heard ≡ true → Taken (turnOf rest read) r input out
+  pub taken : r .heard ≡ true → Taken (turnOf π rest read) r input out
   pub unheard : r .heard ≡ false → r .ended ≡ false
 
 -- the most reads that are made
@@ -51,12 +52,12 @@ mostReads = 2 ^ 64 - 1
 -- The program has made a session's turns, and has stopped: `before` is what its reads gave, and `last` what the last one gave, unless it
 -- failed. The session had not ended before the last read. If that was good, the output begins with what the last turn prints; if it failed,
 -- the input has not ended. The program stops only where the session has ended, where a read or a write failed, or after the most reads.
-pub record Ran (r : Stopped) (out : List ℕ) : Type 0 where
+pub record Ran (π : Program) (r : Stopped) (out : List ℕ) : Type 0 where
   pub before : List (List ℕ)
   pub last : List ℕ
   pub count : r .reads ≡ suc (length before)
-  pub going : session [] before .ends ≡ false
-  pub printed : r .heard ≡ true → Begins out (turnOf (session [] before .keeps) last .prints)
-  pub ended : r .heard ≡ true → r .ended ≡ session [] (before ++ (last ∷ [])) .ends
+  pub going : session π [] before .ends ≡ false
+  pub printed : r .heard ≡ true → Begins out (turnOf π (session π [] before .keeps) last .prints)
+  pub ended : r .heard ≡ true → r .ended ≡ session π [] (before ++ (last ∷ [])) .ends
   pub unheard : r .heard ≡ false → r .ended ≡ false
   pub why : (r .ended ≡ true) ⊎ (r .heard ≡ false) ⊎ (r .sent ≡ false) ⊎ (r .reads ≡ mostReads)

@@ -4,6 +4,7 @@ use libc::STDERR_FILENO;
 use libc::STDIN_FILENO;
 use libc::STDOUT_FILENO;
 use lines::Turned;
+use replies::Program;
 ghost use mathlib.Core.Path.{_≡_};
 ghost use Prim.Native.Nat.{_≤_, _<_};
 ghost use lib.ListN.{length, take};
@@ -28,13 +29,13 @@ pub fn room() -> [u8; ROOM]
 }
 
 // The turn for what a read has put behind the first `kept` bytes of the input. `got` is the read's answer: how many bytes these are.
-fn turn_for(got: isize, input: &mut [u8], kept: usize, out: &mut [u8]) -> Turned
+fn turn_for(program: Program, got: isize, input: &mut [u8], kept: usize, out: &mut [u8]) -> Turned
     requires { ⌜ (kept ≤ mostKept) × (mostKept < length (now input)) × (inputRoom (now input) ≤ length (now out)) ⌝ }
-    ensures { λ r. ⌜ Took (turnOf (take kept (now (input .entry))) (given got kept (now (input .entry)))) (now (input .entry)) (now (out .entry)) r (now (input .exit)) (now (out .exit)) ⌝ }
+    ensures { λ r. ⌜ Took (turnOf program (take kept (now (input .entry))) (given got kept (now (input .entry)))) (now (input .entry)) (now (out .entry)) r (now (input .exit)) (now (out .exit)) ⌝ }
 {
     let n = io::count(got, &input[kept..]);
     let end = kept + n;
-    lines::turn(&mut input[..end], kept, out)
+    lines::turn(program, &mut input[..end], kept, out)
 }
 
 // Whether a read that answered `got` has failed.
@@ -54,9 +55,9 @@ struct After {
 
 // One turn: a read behind the kept bytes, and a write of the replies. A read that fails is not the end of the input: a line of which only the
 // start was read gets no reply.
-fn one_turn(input: &mut [u8], kept: usize, out: &mut [u8]) -> After
+fn one_turn(program: Program, input: &mut [u8], kept: usize, out: &mut [u8]) -> After
     requires { ⌜ (kept ≤ mostKept) × (mostKept < length (now input)) × (inputRoom (now input) ≤ length (now out)) ⌝ }
-    ensures { λ r. ⌜ OneTurn (take kept (now (input .entry))) r (now (input .exit)) (now (out .exit)) ⌝ }
+    ensures { λ r. ⌜ OneTurn program (take kept (now (input .entry))) r (now (input .exit)) (now (out .exit)) ⌝ }
 {
     let got = libc::read(STDIN_FILENO, &mut input[kept..]);
     if failed(got) {
@@ -67,7 +68,7 @@ fn one_turn(input: &mut [u8], kept: usize, out: &mut [u8]) -> After
             sent: true,
         };
     }
-    let turned = turn_for(got, input, kept, out);
+    let turned = turn_for(program, got, input, kept, out);
     let written = turned.written;
     let sent = io::write_all(STDOUT_FILENO, &out[..written]);
     After {
@@ -88,14 +89,14 @@ pub struct Stopped {
 }
 
 // Turn after turn, to the end of the input. It stops before that only where a read or a write fails, or after `MOST_READS` reads.
-pub fn all_turns(input: &mut [u8], out: &mut [u8]) -> Stopped
+pub fn all_turns(program: Program, input: &mut [u8], out: &mut [u8]) -> Stopped
     requires { ⌜ (mostKept < length (now input)) × (inputRoom (now input) ≤ length (now out)) ⌝ }
-    ensures { λ r. ⌜ Ran r (now (out .exit)) ⌝ }
+    ensures { λ r. ⌜ Ran program r (now (out .exit)) ⌝ }
 {
     let mut kept = 0;
     let mut reads: u64 = 0;
     loop {
-        let after = one_turn(input, kept, out);
+        let after = one_turn(program, input, kept, out);
         kept = after.kept;
         reads += 1;
         if after.ended || !after.heard || !after.sent || reads == MOST_READS {
@@ -109,7 +110,7 @@ pub fn all_turns(input: &mut [u8], out: &mut [u8]) -> Stopped
     }
 }
 
-// Where not every line has its reply, a line on standard error says so: the one where a write failed, the other where a read did.
+// Where not every line has its reply, says so on standard error: `unwritten` where a write failed, `unread` where a read did.
 pub fn tell(stopped: Stopped, unwritten: &[u8], unread: &[u8]) {
     if !stopped.sent {
         io::write_all(STDERR_FILENO, unwritten);

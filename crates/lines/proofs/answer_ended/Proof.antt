@@ -14,27 +14,27 @@ use Rattle.lines.proofs.answer_ended.Statement.{statement}
 use Rattle.lines.proofs.answer_ended.Tie as tie
 
 abbrev Inv-loop : tie.InvT-loop
-Inv-loop input out₀ read₀ written₀ end₀ out read written end = Passed input out₀ out read written × (end ≡ read + length (upto feed (drop read input)))
+Inv-loop π input out₀ read₀ written₀ end₀ out read written end = Passed π input out₀ out read written × (end ≡ read + length (upto feed (drop read input)))
 
 abbrev μ-loop : tie.MeasureT-loop
-μ-loop input out₀ read₀ written₀ end₀ out read written end = length input - read
+μ-loop π input out₀ read₀ written₀ end₀ out read written end = length input - read
 
 loop-holds : tie.Need-loop-holds Inv-loop μ-loop
 loop-holds c =
     let s = c .before .before .before in
-    (passed-none (s .args .input .now) (s .args .out .now) (s .pre), c .line-end .ensures)
+    (passed-none (s .args .program) (s .args .input .now) (s .args .out .now) (s .pre), c .line-end .ensures)
 
 -- one more line is answered
 next : (c : tie.After-reply Inv-loop μ-loop) → let a = c .before .before .before .before in
     let s = a .before .before .before .before in
-    Passed (s .args .input .now) (s .args .out .now) (back (a .loop .out) (a .loop .written) (c .reply .last .1 .0)) (a .loop .end + 1) (a .loop .written + c .reply .result)
+    Passed (s .args .program) (s .args .input .now) (s .args .out .now) (back (a .loop .out) (a .loop .written) (c .reply .last .1 .1 .0)) (a .loop .end + 1) (a .loop .written + c .reply .result)
 next c =
     let a = c .before .before .before .before in
     let s = a .before .before .before .before in
     let v = a .loop in
-    let room = has-room (s .args .input .now) (s .args .out .now) (v .out) (v .read) (v .written) (v .inv .0) in
-    passed-more (s .args .input .now) (s .args .out .now) (v .out) (v .read) (v .written) (v .inv .0) (v .end) (v .inv .1) (c .before .before .before .loop-test .taken)
-    (c .reply .result) (c .reply .last .1 .0) (rw (le-leb replyRoom (length (part (v .out) (v .written))) room) at (c .reply .ensures))
+    let room = has-room (s .args .program) (s .args .input .now) (s .args .out .now) (v .out) (v .read) (v .written) (v .inv .0) in
+    passed-more (s .args .program) (s .args .input .now) (s .args .out .now) (v .out) (v .read) (v .written) (v .inv .0) (v .end) (v .inv .1) (c .before .before .before .loop-test .taken)
+    (c .reply .result) (c .reply .last .1 .1 .0) (rw (le-leb replyRoom (length (part (v .out) (v .written))) room) at (c .reply .ensures))
 
 add-written : tie.Need-add-written Inv-loop μ-loop
 add-written c = let n = next (c .before .before) in omega (arith, n .few, n .room, n .within)
@@ -50,7 +50,7 @@ returns c =
     let a = c .before in
     let s = a .before .before .before .before in
     let v = a .loop in
-    passed-all (s .args .input .now) (s .args .out .now) (v .out) (v .read) (v .written) (v .inv .0) (v .end) (v .inv .1) (c .loop-test .left)
+    passed-all (s .args .program) (s .args .input .now) (s .args .out .now) (v .out) (v .read) (v .written) (v .inv .0) (v .end) (v .inv .1) (c .loop-test .left)
 
 pub answer-ended-spec : {M : Type 1} → statement M
 answer-ended-spec =

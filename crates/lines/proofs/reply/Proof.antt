@@ -5,7 +5,7 @@ use lib.ListN.{length, set, length-append}
 use borrow.Author.Needs.{needs}
 use borrow.Author.Tests.{le-leb, lt-leb}
 use Rattle.numeral.proofs.Splices.{splice-snoc}
-use Rattle.replies.specs.Replies.{replyOf}
+use Rattle.replies.specs.Programs.{replyOf}
 use Rattle.replies.specs.Writing.{replyRoom}
 use Rattle.lines.specs.Lines.{feed}
 use Rattle.replies.proofs.Sizes.{reply-long}
@@ -20,21 +20,21 @@ slice-write-out : tie.Need-slice-write-out
 slice-write-out c =
     let w = c .before .before .write in
     let e = c .before .before .before .before in
-    omega (arith, w .ensures .end, w .kept .1 .0, reply-long (e .before .before .before .args .line .now), e .if1 .left)
+    omega (arith, w .ensures .end, w .kept .1 .1 .0, reply-long (e .before .before .before .args .program) (e .before .before .before .args .line .now), e .if1 .left)
 
 add-result : tie.Need-add-result
 add-result c =
     let w = c .before .before .write in
     let e = c .before .before .before .before in
-    omega (arith, w .ensures .end, reply-long (e .before .before .before .args .line .now))
+    omega (arith, w .ensures .end, reply-long (e .before .before .before .args .program) (e .before .before .before .args .line .now))
 
 written : tie.Need-returns-2
 written c =
     let w = c .before .before .write in
     let e = c .before .before .before .before in
     let s = e .before .before .before in
-    let r = replyOf (s .args .line .now) in
-    let k = reply-long (s .args .line .now) in
+    let r = replyOf (s .args .program) (s .args .line .now) in
+    let k = reply-long (s .args .program) (s .args .line .now) in
     rw (le-leb replyRoom (length (s .args .out .now)) (e .if1 .left)) (record {
       end = simp length-append (omega (arith, w .ensures .end));
       bytes = ap (λ l. set l (w .result) feed) (w .ensures .bytes) ∙ splice-snoc (s .args .out .now) 0 r feed (w .result) (omega (arith, w .ensures .end)) (omega (arith, w .ensures .end));

@@ -13,7 +13,7 @@ use Rattle.lines.proofs.turn.Tie as tie
 short : tie.Need-returns
 short c =
     let s = c .before .before .before .before in
-    no-room (s .args .kept) (s .args .input .now) (s .args .out .now) (leb-false _ _ (sym (c .before .has-room .ensures) ∙ not-true _ (c .if1 .taken)))
+    no-room (s .args .program) (s .args .kept) (s .args .input .now) (s .args .out .now) (leb-false _ _ (sym (c .before .has-room .ensures) ∙ not-true _ (c .if1 .taken)))
 
 -- the output has the room
 room : (c : tie.Else1) → let s = c .before .before .before .before in inputRoom (s .args .input .now) ≤ length (s .args .out .now)
@@ -27,7 +27,7 @@ ended c =
     let e = c .before .before .before .before .before in
     let s = e .before .before .before .before .before in
     let r = c .before .before .end-reply in
-    at-end (s .args .kept) (s .args .input .now) (s .args .out .now) (room (e .before)) (r .result) (r .last .1 .0) (e .if2 .taken) (r .ensures)
+    at-end (s .args .program) (s .args .kept) (s .args .input .now) (s .args .out .now) (room (e .before)) (r .result) (r .last .1 .1 .0) (e .if2 .taken) (r .ensures)
 
 answer-requires : tie.Need-answer-ended-requires
 answer-requires c κs = room (c .before .before .before)
@@ -41,7 +41,7 @@ more c =
     let r = h .before .before .before .before in
     let e = r .before .before .before in
     let s = e .before .before .before .before .before in
-    goes-on (s .args .kept) (s .args .input .now) (s .args .out .now) (room (e .before)) (r .answer-ended .result .written) (r .answer-ended .last .1 .0) (e .if2 .left) (r .answer-ended .ensures .1)
+    goes-on (s .args .program) (s .args .kept) (s .args .input .now) (s .args .out .now) (room (e .before)) (r .answer-ended .result .written) (r .answer-ended .last .1 .1 .0) (e .if2 .left) (r .answer-ended .ensures .1)
     (h .hold .result) (h .hold .last .0) (rw (r .answer-ended .ensures .0) at (h .hold .ensures))
 
 pub turn-spec : {M : Type 1} → statement M

@@ -12,19 +12,19 @@ use Rattle.sessions.proofs.all_turns.Statement.{statement}
 use Rattle.sessions.proofs.all_turns.Tie as tie
 
 abbrev Inv-loop : tie.InvT-loop
-Inv-loop input₀ out₀ kept₀ reads₀ input out kept reads = (length input ≡ length input₀) × (length out ≡ length out₀) × Going input kept reads
+Inv-loop π input₀ out₀ kept₀ reads₀ input out kept reads = (length input ≡ length input₀) × (length out ≡ length out₀) × Going π input kept reads
 
 abbrev μ-loop : tie.MeasureT-loop
-μ-loop input₀ out₀ kept₀ reads₀ input out kept reads = mostReads - reads
+μ-loop π input₀ out₀ kept₀ reads₀ input out kept reads = mostReads - reads
 
 loop-holds : tie.Need-loop-holds Inv-loop μ-loop
-loop-holds c = (search needs, search needs, at-start (c .before .before .args .input .now))
+loop-holds c = (search needs, search needs, at-start (c .before .before .args .program) (c .before .before .args .input .now))
 
 returns : tie.Need-returns Inv-loop μ-loop
 returns c =
     let t = c .before .before .before .before .before in
     let a = t .before .before .before in
-    stops (a .loop .input) (t .one-turn .last .0) (t .one-turn .last .1 .1 .0) (a .loop .kept) (a .loop .reads) (a .loop .inv .2) (t .one-turn .result) (t .one-turn .ensures)
+    stops (a .before .before .before .args .program) (a .loop .input) (t .one-turn .last .1 .0) (t .one-turn .last .1 .1 .1 .0) (a .loop .kept) (a .loop .reads) (a .loop .inv .2) (t .one-turn .result) (t .one-turn .ensures)
     (⊎-elim
     (λ w. inl (w .taken))
     (λ w. inr (⊎-elim (λ w. inl (not-true _ (w .2 .taken))) (λ w. inr (⊎-elim (λ w. inl (not-true _ (w .4 .taken))) (λ w. inr (eqb-true _ _ (w .5 .taken))) w)) w))
@@ -36,7 +36,7 @@ loop-again c =
     let a = t .before .before .before in (
       search needs,
       search needs,
-      reads-on (a .loop .input) (t .one-turn .last .0) (t .one-turn .last .1 .1 .0) (a .loop .kept) (a .loop .reads) (a .loop .inv .2) (t .one-turn .result) (t .one-turn .ensures)
+      reads-on (a .before .before .before .args .program) (a .loop .input) (t .one-turn .last .1 .0) (t .one-turn .last .1 .1 .1 .0) (a .loop .kept) (a .loop .reads) (a .loop .inv .2) (t .one-turn .result) (t .one-turn .ensures)
           (not-false _ (c .before .before .before .if2 .left)) (c .before .before .before .before .before .if1 .left)
           (omega (arith, eqb-false (a .loop .reads + 1) mostReads (c .if4 .left), a .loop .inv .2 .left)),
     )

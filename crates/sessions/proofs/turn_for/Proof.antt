@@ -25,8 +25,8 @@ returns c =
     let t = c .before .before .before .before .turn in
     let n = c .before .before .before .before .before .before .before in
     let s = n .before .before .before .before .before in
-    for-given (s .args .got) (s .args .kept) (n .count .result) (s .args .input .now) (s .args .out .now) (counted n) (t .result) (t .last .0) (t .last .1 .1 .0)
-    (omega arith) (s .pre .2) (t .kept .0) (t .ensures)
+    for-given (s .args .program) (s .args .got) (s .args .kept) (n .count .result) (s .args .input .now) (s .args .out .now) (counted n) (t .result) (t .last .1 .0) (t .last .1 .1 .1 .0)
+    (omega arith) (s .pre .2) (t .kept .1 .0) (t .ensures)
 
 pub turn-for-spec : {M : Type 1} → statement M
 turn-for-spec =
