@@ -15,7 +15,7 @@ use Rattle.replies.specs.declared.Program.{Program}
 use Rattle.lines.specs.Lines.{feed, printed, outputOf, inputRoom}
 use Rattle.lines.specs.Turns.{whole}
 use Rattle.replies.proofs.Pieces.{part, back, put-back}
-use Rattle.replies.proofs.Sizes.{reply-grows}
+use Rattle.replies.proofs.Programs.{reply-grows}
 use Rattle.lines.proofs.Splits.{no-output, none-ended, not-ended, the-line, ended-is, output-is}
 
 printed-long : (π : Program) (l : List ℕ) → length (printed π l) ≤ 4 * (length l + 1)

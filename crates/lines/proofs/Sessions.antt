@@ -4,23 +4,19 @@ use Prim.Native.Nat.{ℕ, zero, suc, _≤_, _<_}
 use mathlib.Core.Path.{_≡_, refl, sym, ap, _∙_}
 use mathlib.Core.Logic.{_⊎_, ⊎-elim, inl, inr}
 use mathlib.Core.List.{List, [], _∷_, _++_, append-assoc, append-nil}
-use mathlib.Core.Bool.{Bool, true, false, not, cond}
+use mathlib.Core.Bool.{Bool, true, false, not}
 use native.Mathlib.Omega.{arith}
 use lib.Dec.{eqb, eqb→eq}
 use lib.ListN.{length, take, drop, length-append}
 use lib.Seq.{take-all, drop-append-seam, length-take-le}
-use borrow.Author.Tests.{lt-leb}
 use Rattle.numeral.proofs.Arithmetic.{lt-or-ge}
-use Rattle.rules.specs.Bytes.{bytes}
-use Rattle.rules.specs.TextNumbers.{after}
 use Rattle.rules.proofs.Runs.{without}
 use Rattle.rules.proofs.Tests.{both, and}
-use Rattle.digits.specs.Starts.{begun}
 use Rattle.replies.specs.Replies.{mostCharacters, replyX}
 use Rattle.replies.specs.declared.Program.{Program}
 use Rattle.lines.specs.Lines.{feed, printed, outputOf}
 use Rattle.lines.specs.Turns.{whole, mostKept, endReply, Turn, turnOf, session, inputOf}
-use Rattle.replies.proofs.Sizes.{neither-kind}
+use Rattle.replies.proofs.Programs.{neither-kind}
 use Rattle.lines.proofs.Splits.{Unfed, unfed-append, last-line, no-output, none-ended, first-output, first-ended}
 
 unfed-take : (n : ℕ) (l : List ℕ) → Unfed l → Unfed (take n l)

@@ -10,7 +10,7 @@ use Rattle.rules.specs.Answers.{Answer, refused, taken, _>>=_}
 use Rattle.rules.specs.Conditions.{Rule, textRules, bankRules, rawRules}
 use Rattle.rules.specs.Schemes.{words}
 use Rattle.rules.specs.Grammar.{Tag, TagText, textOf}
-use Rattle.rules.specs.Coding.{bankOf, wordCount}
+use Rattle.rules.specs.Coding.{bankOf, wordCount, bankSize}
 use Rattle.rules.specs.TextNumbers.{tagOfText}
 use Rattle.rules.specs.BankNumbers.{tagOfBank}
 use Rattle.rules.specs.Raw.{rawText, rawOfBank}
@@ -32,7 +32,7 @@ Firm (refused n p) = 0 < n
 Firm (taken (W, w)) = 0 < length w
 
 -- what stands at an output's start, and behind it what was there before
-abbrev Stands : List ℕ → List ℕ → ℕ → List ℕ → Type 0
+abbrev pub Stands : List ℕ → List ℕ → ℕ → List ℕ → Type 0
 Stands w out n e = (n ≡ length w) × (e ≡ w ++ drop (length w) out)
 
 module _ (room : ℕ) (out : List ℕ) (a : Answer Output) (n : ℕ) (e : List ℕ) (firm : Firm a) (l : room ≤ length out) where
@@ -103,49 +103,58 @@ module _ (t out e : List ℕ) (n : ℕ) (l : bankRoom ≤ length out) where
       let (a, _) = was-refused bankRoom out (then-written smallest (tagOfText t)) n e smallest-firm l p (in-words _ h) in
       ap ofText (not-taken smallest (tagOfText t) n p a)
 
+-- A text is written for what is read: it stands at the output's start. A refusal leaves the output as it was.
+module _ {X : Type 0} (rs : List Rule) (Right : X → Type 0) (a : Answer X) (reads : Reads rs Right a) (W : ℕ) (text : X → List ℕ) (full : (x : X) → Right x → 0 < length (text x)) where
+  with-text : X → Output
+  with-text x = (W, text x)
+
+  with-text-firm : Firm (then-written with-text a)
+  unfolding with-text
+  with-text-firm = firm with-text rs Right a reads full
+
+  module _ (out e : List ℕ) (n : ℕ) (l : textRoom ≤ length out) where
+    abbrev the-call : Call
+    the-call = call out (lent textRoom out (a >>= λ x. taken (W, text x)))
+
+    pub shows : (m : ℕ) → answered (Written n m) e ≡ the-call → (x : X) × (a ≡ taken x) × Right x × Stands (text x) out n e
+    unfolding with-text then-written
+    shows m h =
+        let (o, r, (c, i)) = was-written textRoom out (then-written with-text a) n e with-text-firm l m h in
+        let (x, k, f) = was-taken with-text a o r in
+        (x, k, (rw k at reads) .1, (c ∙ ap length (sym f), i ∙ ap (λ w. w ++ drop (length w) out) (sym f)))
+
+    pub refuses : (p : ℕ) → answered (Refused n p) e ≡ the-call → (a ≡ refused n p) × (e ≡ out)
+    unfolding with-text then-written
+    refuses p h =
+        let (r, o) = was-refused textRoom out (then-written with-text a) n e with-text-firm l p h in
+        (not-taken with-text a n p r, o)
+
 module _ (b out e : List ℕ) (n : ℕ) (l : textRoom ≤ length out) where
-  text-beside : Tag → Output
-  text-beside τ = (wordCount b, textOf τ)
-
-  text-firm : Firm (then-written text-beside (tagOfBank b))
-  unfolding text-beside
-  text-firm = firm text-beside (bankRules b) (Shown b) (tagOfBank b) (bank-reads b) λ τ _. text-full τ
-
   pub text-written : (W : ℕ) → answered (Written n W) e ≡ bankToText b out
-      → (τ : Tag) × (tagOfBank b ≡ taken τ) × (n ≡ length (textOf τ)) × (n ≤ 116) × (e ≡ textOf τ ++ drop (length (textOf τ)) out)
-  unfolding bankToText text-beside then-written
+      → (τ : Tag) × (tagOfBank b ≡ taken τ) × (n ≤ 116) × Stands (textOf τ) out n e
+  unfolding bankToText
   text-written W h =
-      let (o, a, (c, i)) = was-written textRoom out (then-written text-beside (tagOfBank b)) n e text-firm l W h in
-      let (τ, k, f) = was-taken text-beside (tagOfBank b) o a in
-      let r = rw k at (bank-reads b) in
-      let few : length (textOf τ) ≤ 116 = text-length (textOf τ) τ (record { fits = r .1 .fits; text = refl }) in
-      (τ, k, c ∙ ap length (sym f), omega (arith, c, ap length f), i ∙ ap (λ x. x ++ drop (length x) out) (sym f))
+      let (τ, k, r, s) = shows (bankRules b) (Shown b) (tagOfBank b) (bank-reads b) (wordCount b) textOf (λ τ _. text-full τ) out e n l W h in
+      (τ, k, omega (arith, s .0, text-length (textOf τ) τ (record { fits = r .fits; text = refl })), s)
 
   pub bank-refused : (p : ℕ) → answered (Refused n p) e ≡ bankToText b out → (tagOfBank b ≡ refused n p) × (e ≡ out)
-  unfolding bankToText text-beside then-written
-  bank-refused p h =
-      let (a, o) = was-refused textRoom out (then-written text-beside (tagOfBank b)) n e text-firm l p h in
-      (not-taken text-beside (tagOfBank b) n p a, o)
+  unfolding bankToText
+  bank-refused p h = refuses (bankRules b) (Shown b) (tagOfBank b) (bank-reads b) (wordCount b) textOf (λ τ _. text-full τ) out e n l p h
 
-  raw-beside : List ℕ → Output
-  raw-beside w = (wordCount b, w)
+  abbrev IsRaw : List ℕ → Type 0
+  IsRaw w = (w ≡ rawText b) × (2 ≤ length b) × (bankSize (wordCount b) ≤ length b)
 
-  raw-firm : Firm (then-written raw-beside (rawOfBank b))
-  unfolding raw-beside rawText
-  raw-firm = firm raw-beside (rawRules b) _ (rawOfBank b) (raw-reads b) λ w r. rw (r .0) (omega arith)
+  raw-full : (w : List ℕ) → IsRaw w → 0 < length w
+  unfolding rawText
+  raw-full w r = rw (r .0) (omega arith)
 
-  pub raw-written : (W : ℕ) → answered (Written n W) e ≡ rawLine b out
-      → (rawOfBank b ≡ taken (rawText b)) × (n ≡ length (rawText b)) × (e ≡ rawText b ++ drop (length (rawText b)) out)
-  unfolding rawLine raw-beside then-written
+  pub raw-written : (W : ℕ) → answered (Written n W) e ≡ rawLine b out → (rawOfBank b ≡ taken (rawText b)) × Stands (rawText b) out n e
+  unfolding rawLine
   raw-written W h =
-      let (o, a, (c, i)) = was-written textRoom out (then-written raw-beside (rawOfBank b)) n e raw-firm l W h in
-      let (w, k, g) = was-taken raw-beside (rawOfBank b) o a in
-      let f : w ≡ rawText b = (rw k at (raw-reads b)) .1 .0 in
-      let same = sym g ∙ f in
-      (k ∙ ap taken f, c ∙ ap length same, i ∙ ap (λ x. x ++ drop (length x) out) same)
+      let (w, k, r, s) = shows (rawRules b) IsRaw (rawOfBank b) (raw-reads b) (wordCount b) (λ w. w) raw-full out e n l W h in
+      let f : w ≡ rawText b = r .0 in
+      (k ∙ ap taken f, rw f at s)
 
   pub raw-refused : (p : ℕ) → answered (Refused n p) e ≡ rawLine b out → (rawOfBank b ≡ refused n p) × (e ≡ out)
-  unfolding rawLine raw-beside then-written
-  raw-refused p h =
-      let (a, o) = was-refused textRoom out (then-written raw-beside (rawOfBank b)) n e raw-firm l p h in
-      (not-taken raw-beside (rawOfBank b) n p a, o)
+  unfolding rawLine
+  raw-refused p h = refuses (rawRules b) IsRaw (rawOfBank b) (raw-reads b) (wordCount b) (λ w. w) raw-full out e n l p h

@@ -5,3 +5,5 @@ pub mod Answered
 pub mod Refusals
 pub mod Screens
 pub mod Sizes
+pub mod IdentitySizes
+pub mod Programs

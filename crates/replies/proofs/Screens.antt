@@ -25,7 +25,7 @@ module _ (b l e : List ℕ) (k : ℕ) (long : replyRoom ≤ length l) where
 
   pub text-shown : (W : ℕ) → answered (Written k W) e ≡ bankToText b (part l 2) → (k ≤ 116) × Wrote (ofBank b (tagOfBank b)) l (k + 2) (set (set (back l 2 e) 0 (code "T")) 1 space)
   text-shown W h =
-      let (τ, a, c, u, o) = text-written b (part l 2) e k (room 2 (omega arith)) W h in
+      let (τ, a, u, (c, o)) = text-written b (part l 2) e k (room 2 (omega arith)) W h in
       (u, rw a (record { end = omega arith; bytes = text-behind l (back l 2 e) (textOf τ) (code "T") (omega arith) (put-back l e 2 (textOf τ) (omega arith) o) }))
 
   pub text-hidden : (i : ℕ) → answered (Refused k i) e ≡ bankToText b (part l 2) → RefusedWith b k × (back l 2 e ≡ l)
@@ -35,7 +35,7 @@ module _ (b l e : List ℕ) (k : ℕ) (long : replyRoom ≤ length l) where
     pub raw-shown : (W : ℕ) → answered (Written k W) e ≡ rawLine b (part l afterNumber) → Wrote (code "R" ∷ space ∷ decimal n) (back l afterNumber e) at after
         → (k ≤ 145) × (at ≡ 4) × Wrote (ofBank b (tagOfBank b)) l (k + afterNumber) (set after at space)
     raw-shown W h w =
-        let (a, c, o) = raw-written b (part l afterNumber) e k (room afterNumber (omega arith)) W h in
+        let (a, (c, o)) = raw-written b (part l afterNumber) e k (room afterNumber (omega arith)) W h in
         let (p, q) = shown-number b n refusal a in
         let two = two-digits n p q in
         let d = decimal-long n in

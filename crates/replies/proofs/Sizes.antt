@@ -1,4 +1,4 @@
--- How long a reply is: at most 150 bytes, and with its line feed at most four times the line with its own.
+-- How long tagline's replies are: at most 150 bytes, and with its line feed at most four times the line with its own.
 use Prim.Native.Nat.{ℕ, _+_, _-_, _*_, _≤_, _<_}
 use mathlib.Core.Path.{_≡_, refl, ap}
 use mathlib.Core.Logic.{_⊎_, inl, inr, ⊎-elim}
@@ -28,19 +28,14 @@ use Rattle.rules.proofs.TextReads.{tag-reads}
 use Rattle.rules.proofs.Lengths.{measured, text-length, text-of-words, afi-length, raw-length}
 use Rattle.digits.proofs.Texts.{length-hex}
 use Rattle.digits.specs.Starts.{begun}
-use borrow.Author.Tests.{lt-leb}
-use Rattle.replies.specs.Hex.{mostDigits, isBank, bytesIn, bankIn}
+use Rattle.replies.specs.Hex.{isBank, bytesIn, bankIn}
 use Rattle.replies.specs.Replies.{mostCharacters, replyN, shown, ofText, ofBank, bankReply, taglineReply, replyX}
-use Rattle.replies.specs.Identities.{identityReply}
-use Rattle.replies.specs.Programs.{replyOf}
-use Rattle.replies.specs.declared.Program.{Program}
-use Rattle.replies.specs.declared.Program.the-variants.{Tagline, Identity}
 use Rattle.replies.proofs.Hexes.{read-count}
 use Rattle.replies.proofs.Pieces.{decimal-long}
 use Rattle.replies.proofs.Refusals.{first-between, with-raw, without-raw, two-digits, later}
 
 -- r is short enough for a line of n bytes
-abbrev Short : ℕ → List ℕ → Type 0
+abbrev pub Short : ℕ → List ℕ → Type 0
 Short n r = (length r ≤ 150) × (length r < 4 * (n + 1))
 
 number-short : (n m : ℕ) → n < 10 → Short m (replyN n)
@@ -60,7 +55,7 @@ started : (t : List ℕ) → ¬ (¬ ((u : List ℕ) × (t ≡ start ++ u))) → 
 unfolding start
 started t h = ⊎-elim (λ (l : length t < 12). absurd (h λ (u, e). omega (arith, ap length e))) (λ (l : 12 ≤ length t). l) (lt-or-ge (length t) 12)
 
-text-refused : (t : List ℕ) (n i : ℕ) → 0 < n → First (textRules t) n i → Short (length t) (replyN n)
+pub text-refused : (t : List ℕ) (n i : ℕ) → 0 < n → First (textRules t) n i → Short (length t) (replyN n)
 unfolding textRules
 text-refused t n i p (inl (_, e, _)) = number-short n (length t) (omega arith)
 text-refused t n i p (inr (x, f)) =
@@ -145,36 +140,11 @@ hex-short l = go (isBank l) refl
         (b .0, omega (arith, b .1))
     go false e = (lit≤ tt, omega arith)
 
-tagline-short : (l : List ℕ) → Short (length l) (taglineReply l)
+pub tagline-line : (l : List ℕ) → Short (length l) (taglineReply l)
 unfolding taglineReply
-tagline-short l = go (begun (after (bytes "urn:") l)) (leb (length l) mostCharacters)
+tagline-line l = go (begun (after (bytes "urn:") l)) (leb (length l) mostCharacters)
   where
     go : (t u : Bool) → Short (length l) (cond t (cond u (ofText (tagOfText l)) replyX) (bankReply (bankIn l)))
     go true true = text-short l
     go true false = (lit≤ tt, omega arith)
     go false u = hex-short l
-
-identity-short : (l : List ℕ) → Short (length l) (identityReply l)
-unfolding identityReply
-identity-short l = (lit≤ tt, omega arith)
-
-reply-short : (π : Program) (l : List ℕ) → Short (length l) (replyOf π l)
-reply-short Tagline l = tagline-short l
-reply-short Identity l = identity-short l
-
-pub reply-long : (π : Program) (l : List ℕ) → length (replyOf π l) ≤ 150
-reply-long π l = reply-short π l .0
-
--- and with a line feed behind it, at most four times its line with one
-pub reply-grows : (π : Program) (l : List ℕ) → length (replyOf π l) + 1 ≤ 4 * (length l + 1)
-reply-grows π l = omega (arith, reply-short π l .1)
-
--- so many bytes are a line of neither kind
-pub neither-kind : (π : Program) (l : List ℕ) → mostCharacters < length l → replyOf π l ≡ replyX
-unfolding taglineReply isBank identityReply
-neither-kind Tagline l h = rw (lt-leb (length l) mostCharacters h, lt-leb (length l) mostDigits (omega arith)) (go (begun (after (bytes "urn:") l)))
-  where
-    go : (b : Bool) → cond b replyX replyX ≡ replyX
-    go true = refl
-    go false = refl
-neither-kind Identity l h = refl

@@ -8,7 +8,7 @@ use Rattle.numeral.proofs.Splices.{splice-snoc}
 use Rattle.replies.specs.Programs.{replyOf}
 use Rattle.replies.specs.Writing.{replyRoom}
 use Rattle.lines.specs.Lines.{feed}
-use Rattle.replies.proofs.Sizes.{reply-long}
+use Rattle.replies.proofs.Programs.{reply-long}
 use Rattle.replies.proofs.Pieces.{wrote-nothing}
 use Rattle.lines.proofs.reply.Statement.{statement}
 use Rattle.lines.proofs.reply.Tie as tie
