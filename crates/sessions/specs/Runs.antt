@@ -61,3 +61,7 @@ pub record Ran (π : Program) (r : Stopped) (out : List ℕ) : Type 0 where
   pub ended : r .heard ≡ true → r .ended ≡ session π [] (before ++ (last ∷ [])) .ends
   pub unheard : r .heard ≡ false → r .ended ≡ false
   pub why : (r .ended ≡ true) ⊎ (r .heard ≡ false) ⊎ (r .sent ≡ false) ⊎ (r .reads ≡ mostReads)
+
+-- the same, of an output that is nobody else's
+abbrev pub HasRun : Program → Stopped → Type 0
+HasRun π r = (out : List ℕ) × Ran π r out

@@ -10,23 +10,16 @@ ghost use Prim.Native.Nat.{_≤_, _<_};
 ghost use lib.ListN.{length, take};
 ghost use Rattle.lines.specs.Lines.{inputRoom};
 ghost use Rattle.lines.specs.Turns.{mostKept, turnOf, Took};
-ghost use Rattle.sessions.specs.Runs.{fullRoom, given, negative, OneTurn, Ran};
+ghost use Rattle.sessions.specs.Runs.{fullRoom, given, negative, OneTurn, Ran, HasRun};
 
 // The size of the input's buffer (`io::large_buffer`), which holds what is kept and what a read gives.
 const INPUT: usize = 65536;
 
 // The room for the replies to a full buffer.
-pub const ROOM: usize = lines::GROWTH * INPUT + lines::REPLY_ROOM;
+const ROOM: usize = lines::GROWTH * INPUT + lines::REPLY_ROOM;
 
 // The most reads that are made. Nobody meets this limit: at a read a nanosecond it takes 584 years.
 const MOST_READS: u64 = u64::MAX;
-
-// The output's buffer.
-pub fn room() -> [u8; ROOM]
-    ensures { λ r. ⌜ fullRoom ≡ length r ⌝ }
-{
-    [0; ROOM]
-}
 
 // The turn for what a read has put behind the first `kept` bytes of the input. `got` is the read's answer: how many bytes these are.
 fn turn_for(program: Program, got: isize, input: &mut [u8], kept: usize, out: &mut [u8]) -> Turned
@@ -89,7 +82,7 @@ pub struct Stopped {
 }
 
 // Turn after turn, to the end of the input. It stops before that only where a read or a write fails, or after `MOST_READS` reads.
-pub fn all_turns(program: Program, input: &mut [u8], out: &mut [u8]) -> Stopped
+fn all_turns(program: Program, input: &mut [u8], out: &mut [u8]) -> Stopped
     requires { ⌜ (mostKept < length (now input)) × (inputRoom (now input) ≤ length (now out)) ⌝ }
     ensures { λ r. ⌜ Ran program r (now (out .exit)) ⌝ }
 {
@@ -110,11 +103,29 @@ pub fn all_turns(program: Program, input: &mut [u8], out: &mut [u8]) -> Stopped
     }
 }
 
+// The output's buffer.
+fn room() -> [u8; ROOM]
+    ensures { λ r. ⌜ fullRoom ≡ length r ⌝ }
+{
+    [0; ROOM]
+}
+
 // Where not every line has its reply, says so on standard error: `unwritten` where a write failed, `unread` where a read did.
-pub fn tell(stopped: Stopped, unwritten: &[u8], unread: &[u8]) {
+fn tell(stopped: Stopped, unwritten: &[u8], unread: &[u8]) {
     if !stopped.sent {
         io::write_all(STDERR_FILENO, unwritten);
     } else if !stopped.ended {
         io::write_all(STDERR_FILENO, unread);
     }
+}
+
+// A program's whole session, and the line that is told where it failed.
+pub fn run(program: Program, unwritten: &[u8], unread: &[u8]) -> Stopped
+    ensures { λ r. ⌜ HasRun program r ⌝ }
+{
+    let mut input = io::large_buffer();
+    let mut out = room();
+    let stopped = all_turns(program, &mut input, &mut out);
+    tell(stopped, unwritten, unread);
+    stopped
 }

@@ -1,13 +1,10 @@
 // tagline (document 01): lines in, a reply to each out.
 use replies::Program;
 
-// Where not every line has its reply, a line on standard error says so. A program can't choose its exit status, so the launcher goes by that line.
+// A program can't choose its exit status, so the launcher goes by the line on standard error.
 fn main() {
-    let mut input = io::large_buffer();
-    let mut out = sessions::room();
-    let stopped = sessions::all_turns(Program::Tagline, &mut input, &mut out);
-    sessions::tell(
-        stopped,
+    sessions::run(
+        Program::Tagline,
         b"tagline: a write to standard output failed: replies are missing\n",
         b"tagline: a read from standard input failed: not every line is answered\n",
     );
