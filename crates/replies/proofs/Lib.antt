@@ -6,4 +6,6 @@ pub mod Refusals
 pub mod Screens
 pub mod Sizes
 pub mod IdentitySizes
+pub mod Filters
+pub mod IdentityReplies
 pub mod Programs

@@ -8,7 +8,6 @@ use super::letters::put_number;
 use codec::Answer;
 use codec::BANK_ROOM;
 use codec::TEXT_ROOM;
-ghost use mathlib.Core.Path.{_≡_};
 ghost use Prim.Native.Nat.{_≤_};
 ghost use lib.ListN.{length};
 ghost use Rattle.rules.specs.BankNumbers.{tagOfBank};
