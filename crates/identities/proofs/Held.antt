@@ -47,7 +47,7 @@ tag-text τ h c = text-parts τ h ∙ ap (λ x. start ++ (controlText x ++ (labe
 no-fields-fit : (noFields .umi ≤ 1) × (noFields .att ≤ 255)
 no-fields-fit = omega arith
 
-read-named : (s : Scheme) (v : List ℕ)
+pub read-named : (s : Scheme) (v : List ℕ)
     → tagOfText (start ++ (label s ++ v)) ≡ (partsIn (length start + length (controlText noFields) + length (label s)) (layout s) v >>= λ ps. taken (record { scheme = s; control = noFields; parts = ps }))
 unfolding tagOfText
 read-named s v = rw (after-of start (label s ++ v), controlled-of (length start) noFields (label s ++ v) no-fields-fit (λ _. label-shut s v), named-of s v)

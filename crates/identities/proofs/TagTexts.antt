@@ -133,29 +133,33 @@ at-most-referred {n = n} p h =
     (digits-referred p (h .symbols), rw (digits-length p) (some-digits p (both (plainNumber p) (leb (length p) n) (h .shape) .0)))
 
 -- Prefix and reference of a table have as many digits in every row.
-abbrev Sums : Table → ℕ → Type 0
+abbrev pub Sums : Table → ℕ → Type 0
 Sums t N = AllRows (λ P r. prefixDigits r + cell t r .1 ≡ N) 0 rows
+
+pub sum-of : (t : Table) (N : ℕ) → Sums t N → (n : ℕ) → 6 ≤ n → n ≤ 12 → n + cell t (rowOf n) .1 ≡ N
+sum-of t N sums n l u =
+    let (k, e) = row-picked n l u in
+    omega (arith, by-row (λ P r. prefixDigits r + cell t r .1 ≡ N) sums (partition n) k, e)
 
 together : (t : Table) (N : ℕ) → Sums t N → {b : ℕ} {p r : List ℕ} → Fit company p → Fit (digits b (cell t (rowOf (length p)) .1)) r → (length p + length r ≡ N) × (length p ≤ 12)
 together t N sums {p = p} {r = r} h j =
     let (l, u) = both (leb 6 (length p)) (leb (length p) 12) (h .shape) in
     let m = leb→le (length p) 12 u in
-    let (k, e) = row-picked (length p) (leb→le 6 (length p) l) m in
-    (omega (arith, eqb→eq (length r) (cell t (rowOf (length p)) .1) (j .shape), by-row (λ P r. prefixDigits r + cell t r .1 ≡ N) sums (partition (length p)) k, e), m)
+    (omega (arith, eqb→eq (length r) (cell t (rowOf (length p)) .1) (j .shape), sum-of t N sums (length p) (leb→le 6 (length p) l) m), m)
 
-sums-a : Sums A 13
+pub sums-a : Sums A 13
 unfolding rows
 sums-a = omega arith
 
-sums-b : Sums B 17
+pub sums-b : Sums B 17
 unfolding rows
 sums-b = omega arith
 
-sums-c : Sums C 12
+pub sums-c : Sums C 12
 unfolding rows
 sums-c = omega arith
 
-sums-d : Sums D 12
+pub sums-d : Sums D 12
 unfolding rows
 sums-d = omega arith
 
