@@ -78,13 +78,31 @@ fn character_at(text: &[u8], at: usize) -> Found
     character(text[at], text[at + 1])
 }
 
+// The bytes that stand for themselves, a bit for each: those below 64, and those from 64 to 127.
+const PLAIN_BELOW_64: u64 = 0x2FFF7F8200000000;
+
+const PLAIN_FROM_64: u64 = 0x07FFFFFE87FFFFFE;
+
+// Whether a byte stands for itself, without the table: for a reader that keeps no characters, making that takes longer than most strings.
+fn stands(c: u8) -> bool
+    ensures { λ r. ⌜ r ≡ plain c ⌝ }
+{
+    if c < 64 {
+        return (PLAIN_BELOW_64 >> c) % 2 == 1;
+    }
+    if c < 128 {
+        return (PLAIN_FROM_64 >> (c - 64)) % 2 == 1;
+    }
+    false
+}
+
 // How many bytes the character at index `at` takes: one, or three for an escape; 0 where no character begins there.
-fn width(text: &[u8], at: usize, classes: &Classes) -> usize
-    requires { ⌜ (at < length (now text)) × ClassTable (now classes) ⌝ }
+fn width(text: &[u8], at: usize) -> usize
+    requires { ⌜ at < length (now text) ⌝ }
     ensures { λ r. ⌜ r ≡ widthIn (drop at (now (text .entry))) ⌝ }
 {
     let b = text[at];
-    if class(b, classes) == table::PLAIN {
+    if stands(b) {
         return 1;
     }
     if b != b'%' {
@@ -98,14 +116,14 @@ fn width(text: &[u8], at: usize, classes: &Classes) -> usize
 
 // Counts the characters from index `at` on, after n that are counted already, and keeps none of them. `escape` goes on here once the room
 // is full. This is a loop, so the two readers below call each other no more often than there is room, however long the text is.
-fn rest(text: &[u8], at: usize, n: usize, classes: &Classes) -> usize
-    requires { ⌜ (at ≤ length (now text)) × (n ≤ at) × ClassTable (now classes) ⌝ }
+fn rest(text: &[u8], at: usize, n: usize) -> usize
+    requires { ⌜ (at ≤ length (now text)) × (n ≤ at) ⌝ }
     ensures { λ r. ⌜ r ≡ counted n (charactersIn (drop at (now (text .entry)))) ⌝ }
 {
     let mut i = at;
     let mut m = n;
     while i < text.len() {
-        let w = width(text, i, classes);
+        let w = width(text, i);
         if w == 0 {
             return 0;
         }
@@ -113,6 +131,14 @@ fn rest(text: &[u8], at: usize, n: usize, classes: &Classes) -> usize
         m += 1;
     }
     m
+}
+
+// How many characters the string part has that goes from index `at` to the end of the text; 0 where it is empty or its form is wrong.
+pub fn characters_in(text: &[u8], at: usize) -> usize
+    requires { ⌜ at ≤ length (now text) ⌝ }
+    ensures { λ r. ⌜ r ≡ countOf (charactersIn (drop at (now (text .entry)))) ⌝ }
+{
+    rest(text, at, 0)
 }
 
 // Stores c as the character at place n, if there is room.
@@ -162,7 +188,7 @@ fn escape(text: &[u8], at: usize, n: usize, kept: &mut [u8], classes: &Classes) 
         kept[n] = c;
         return plain_run(text, at + 2, n + 1, kept, classes);
     }
-    rest(text, at + 2, n + 1, classes)
+    rest(text, at + 2, n + 1)
 }
 
 // Reads the string part that goes from index `at` to the end of the text.

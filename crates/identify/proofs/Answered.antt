@@ -1,6 +1,7 @@
 -- The answers of the two calls, from what was read.
 use Prim.Native.Nat.{ℕ, _+_, _≤_, _<_}
 use mathlib.Core.Path.{_≡_, refl, sym, ap, _∙_}
+use mathlib.Core.Bool.{true, false}
 use mathlib.Core.List.{List, _++_, append-assoc}
 use mathlib.Core.Option.{Option, none, some}
 use native.Mathlib.Omega.{arith}
@@ -18,19 +19,27 @@ use Rattle.identities.specs.declared.Family.{Family}
 use Rattle.identities.specs.Families.{families, mostFilter}
 use Rattle.identities.specs.Grammar.{IdentityFits, joined, start, label}
 use Rattle.identities.specs.Numbers.{Named as NamedText}
-use Rattle.identities.specs.Numbers.{bodyIn, named, identified, and-then, identityIn, chosen, tagOfIdentity}
+use Rattle.identities.specs.Numbers.{holds, bodyIn, named, identified, and-then, identityIn, chosen, tagOfIdentity}
 use Rattle.identities.specs.Calls.{identityToTag}
 use Rattle.identities.proofs.Divisions.{body-is}
 use Rattle.identities.proofs.IdentityTexts.{named-is}
 use Rattle.identities.proofs.Choices.{chosen-formed}
 use Rattle.identify.specs.declared.families.Named.the-variants.{Unlisted}
 use Rattle.identify.specs.declared.families.Named.the-variants.{Is as Found}
-use Rattle.identify.specs.Words.{foundOf, further, foundBehind, foundIn, PutIf, numberOr, ofFamily}
+use Rattle.identify.specs.Words.{foundOf, further, foundBehind, foundIn, isBody, PutIf, numberOr, ofFamily}
 
 -- Behind a family's name.
 module _ (g : Family) (f : ℕ) (x out : List ℕ) where
   abbrev here : NamedText
   here = record { family = g; rest = x }
+
+  -- the form is wrong: 23, whatever the filter
+  pub not-formed : isBody g x ≡ false → answered (Refused 23 0) out ≡ ofFamily g f x out
+  not-formed w = go (bodyIn g x) refl w
+    where
+      go : (o : Option (List (List ℕ))) → bodyIn g x ≡ o → holds (λ (_ : List (List ℕ)). true) o ≡ false → answered (Refused 23 0) out ≡ ofFamily g f x out
+      go none e w = rw e
+      go (some ps) e w = let z : _≡_ {A = ℕ} 0 1 = cc in absurd (omega arith)
 
   -- a filter above the limit: 23 or 24
   pub over : mostFilter g < f → answered (Refused (numberOr g x 24) 0) out ≡ ofFamily g f x out

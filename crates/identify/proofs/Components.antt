@@ -14,7 +14,7 @@ use Rattle.rules.specs.Grammar.{plainNumber}
 use Rattle.rules.specs.TextNumbers.{isDigit, digitsIn}
 use Rattle.rules.proofs.Tests.{both}
 use Rattle.digits.proofs.Runs.{digits-some, digits-none}
-use Rattle.alphabet.specs.Strings.{spelledOf}
+use Rattle.alphabet.specs.Strings.{countOf}
 use Rattle.identities.specs.declared.Component.the-variants.{Padded, PaddedOrEmpty, UpTo, Number, PartReference}
 use Rattle.identities.specs.Numbers.{holds, some-of, partsOnly, is}
 
@@ -87,7 +87,7 @@ no-leading-zero (a ∷ b ∷ t) l n = sym (by-digits plainNumber (a ∷ b ∷ t)
         lt-ltb 0 (a - code "0") (omega (arith, leb→le (code "0") a m))
 
 -- characters
-pub some-characters : (o : Option (List ℕ)) → ltb 0 (spelledOf o .count) ≡ holds some-of o
+pub some-characters : (o : Option (List ℕ)) → ltb 0 (countOf o) ≡ holds some-of o
 some-characters none = refl
 some-characters (some cs) = refl
 

@@ -3,6 +3,10 @@ pub mod Names
 pub mod Components
 pub mod PartTexts
 pub mod Divided
+pub mod Pieces
+pub mod Verdicts
+pub mod Judgements
+pub mod Holders
 pub mod TagLines
 pub mod Answered
 pub mod OneAnswer

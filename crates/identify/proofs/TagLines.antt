@@ -98,6 +98,9 @@ module _ (f : ℕ) (body : List ℕ) (s : Scheme) where
   pub text-size : length text ≤ 24 + length body
   text-size = omega (arith, sizes, label-short s, filter-length (about s .parts) f)
 
+  pub short-body : (τ : Tag) → TagText text τ → length body ≤ 116
+  short-body τ r = omega (arith, sizes, text-length text τ r)
+
   pub too-long : 116 < length body → heldBy f body s ≡ none
   unfolding heldBy
   too-long h = go (tagOfText text) refl

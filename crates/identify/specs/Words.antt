@@ -1,34 +1,44 @@
 -- What the code holds of a family and of an identity's text.
-use Prim.Native.Nat.{ℕ, _+_}
+use Prim.Native.Nat.{ℕ, zero, suc, _+_, _/_}
 use mathlib.Core.Path.{_≡_}
 use mathlib.Core.List.{List, [], _∷_, _++_}
 use mathlib.Core.Option.{Option, none, some}
 use mathlib.Core.Bool.{Bool, true, false, _&&_, cond}
-use lib.Dec.{eqb}
+use lib.Dec.{leb, ltb, eqb}
 use lib.ListN.{length, drop, getD}
 use Rattle.rules.specs.declared.Scheme.{Scheme}
 use Rattle.rules.specs.declared.ControlFields.{ControlFields}
+use Rattle.rules.specs.declared.Last.{Last}
+use Rattle.rules.specs.declared.Last.the-variants.{Integer, String, Numeric}
+use Rattle.rules.specs.declared.Body.the-variants.{Then, Zeros, E}
+use Rattle.rules.specs.declared.Parts.{Parts}
+use Rattle.rules.specs.declared.Parts.the-variants.{F, Integers}
 use Rattle.rules.specs.Answers.{taken, _>>=_}
 use Rattle.rules.specs.Bytes.{bytes, among, upto, dot}
+use Rattle.rules.specs.Schemes.{Form, integer}
 use Rattle.rules.specs.Schemes.{about as aboutScheme}
 use Rattle.rules.specs.ControlFields.{controlText}
-use Rattle.rules.specs.Grammar.{Tag, textOf}
+use Rattle.rules.specs.Grammar.{sized, Tag, textOf}
 use Rattle.rules.specs.Grammar.{label as schemeLabel}
-use Rattle.rules.specs.TextNumbers.{after}
+use Rattle.rules.specs.TextNumbers.{after, charactersIn, formed}
+use Rattle.alphabet.specs.Strings.{countOf}
 use Rattle.rules.specs.Calls.{Call, call}
 use Rattle.digits.specs.Starts.{begun}
 use Rattle.identities.specs.declared.Family.{Family}
 use Rattle.identities.specs.declared.Family.the-variants.{Sgtin}
 use Rattle.identities.specs.declared.Component.{Component}
-use Rattle.identities.specs.Families.{about, families, long}
+use Rattle.identities.specs.declared.Component.the-variants.{Padded, PaddedOrEmpty, UpTo, Number, Characters, PartReference}
+use Rattle.identities.specs.Families.{about, families, short, long}
 use Rattle.identities.specs.Grammar.{partCharacters, totals, start, label}
 use Rattle.identities.specs.Numbers.{Named as NamedText}
-use Rattle.identities.specs.Numbers.{holds, is, dividedBy, bodyIn, named, identified, filterText, tagOf}
+use Rattle.identities.specs.Numbers.{holds, is, dividedBy, bodyIn, named, identified, filterText, heldBy, or-else, and-then, tagOf}
 use Rattle.identify.specs.declared.families.LongScheme.{LongScheme}
 use Rattle.identify.specs.declared.families.LongScheme.the-variants.{Is, Nothing}
 use Rattle.identify.specs.declared.families.Named.{Named}
 use Rattle.identify.specs.declared.families.Named.the-variants.{Unlisted}
 use Rattle.identify.specs.declared.families.Named.the-variants.{Is as Found}
+use Rattle.identify.specs.declared.counted.Verdict.{Verdict}
+use Rattle.identify.specs.declared.counted.Verdict.the-variants.{WrongText, Unheld, By, Uncounted}
 use Rattle.identify.specs.declared.form.Before.{Before}
 use Rattle.identify.specs.declared.form.Before.the-variants.{At, Wrong}
 use Rattle.identify.specs.declared.form.Total.{Total}
@@ -109,6 +119,85 @@ pub record ShapeOf (f : Family) (r : Shape) : Type 0 where
 -- whether a text is what follows a family's name
 abbrev pub isBody : Family → List ℕ → Bool
 isBody f x = holds (λ _. true) (bodyIn f x)
+
+-- COUNTED FAMILIES
+
+-- a tag of the scheme has these parts, whatever its filter
+abbrev pub held : List ℕ → Scheme → Bool
+held x s = holds (λ _. true) (heldBy 0 x s)
+
+-- the scheme that holds them: the 96-bit one, else the long one
+abbrev pub heldIn : List ℕ → Scheme → Option Scheme
+heldIn x s = cond (held x s) (some s) none
+
+abbrev pub holder : Family → List ℕ → Option Scheme
+holder g x = or-else (heldIn x (short g)) (and-then (long g) (heldIn x))
+
+-- the verdict of a family with a total: whether its text is of the grammar, and the scheme that holds it
+abbrev pub judgedAs : Option ℕ → Bool → Option Scheme → Verdict
+judgedAs none right o = Uncounted
+judgedAs (some n) false o = WrongText
+judgedAs (some n) true none = Unheld
+judgedAs (some n) true (some s) = By s
+
+abbrev pub judged : Family → List ℕ → Verdict
+judged g x = judgedAs (about g .total) (isBody g x) (holder g x)
+
+-- a text is a part of this form, and not too large
+abbrev pub fitting : Form → List ℕ → Bool
+fitting f t = holds (sized f) (formed f t)
+
+-- six to twelve digits pick a row
+abbrev pub inRow : ℕ → Bool
+inRow n = leb 6 n && leb n 12
+
+abbrev pub byRow : ℕ → Scheme → Verdict
+byRow n s = cond (inRow n) (By s) Unheld
+
+-- the bits of a last part
+abbrev pub bitsOf : Last → ℕ
+bitsOf (Integer b) = b
+bitsOf (String b) = b
+bitsOf (Numeric b n) = b
+
+abbrev pub lastBits : Parts → ℕ
+lastBits (F (Then t l)) = bitsOf l
+lastBits (F (Zeros t z)) = 0
+lastBits (F E) = 0
+lastBits (Integers a b c) = 0
+
+-- a reference of n digits stands where one may not be empty
+abbrev pub isThere : Component → ℕ → Bool
+isThere Padded n = ltb 0 n
+isThere PaddedOrEmpty n = true
+isThere (UpTo m) n = true
+isThere Number n = true
+isThere Characters n = true
+isThere PartReference n = true
+
+-- the verdict by a serial: an integer for the 96-bit scheme s, characters for the long scheme l, of which k are the most; n are the prefix's digits
+abbrev pub byCount : ℕ → ℕ → Scheme → ℕ → Verdict
+byCount n k l zero = WrongText
+byCount n k l (suc c) = cond (leb (suc c) k) (byRow n l) Unheld
+
+abbrev pub bySerial : ℕ → Scheme → Scheme → List ℕ → Verdict
+bySerial n s l z =
+    let long = byCount n (lastBits (aboutScheme l .parts) / 7) l (countOf (charactersIn z)) in
+    cond (fitting (integer (lastBits (aboutScheme s .parts))) z) (byRow n s) long
+
+-- the verdict by the last part of a counted family
+abbrev pub byLast : ℕ → Scheme → Option Scheme → Component → List ℕ → Verdict
+byLast n s none c z = cond (is c z) (byRow n s) WrongText
+byLast n s (some l) c z = bySerial n s l z
+
+-- a family of three components, the first two of them digits with a total; and of two
+pub record Serialised (f : Family) (b c : Component) (n : ℕ) : Type 0 where
+  pub components : about f .components ≡ Padded ∷ b ∷ c ∷ []
+  pub total : about f .total ≡ some n
+
+pub record Bare (f : Family) (a b : Component) (n : ℕ) : Type 0 where
+  pub components : about f .components ≡ a ∷ b ∷ []
+  pub total : about f .total ≡ some n
 
 -- TAGS
 

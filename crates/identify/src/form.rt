@@ -9,7 +9,7 @@ ghost use Prim.Native.Nat.{_<_};
 ghost use lib.ListN.{length, drop};
 ghost use Rattle.rules.specs.Bytes.{among, upto, dot};
 ghost use Rattle.identities.specs.Grammar.{partCharacters};
-ghost use Rattle.identities.specs.declared.Component.the-variants.{Padded, UpTo, Number, Characters, PartReference};
+ghost use Rattle.identities.specs.declared.Component.the-variants.{Padded, PaddedOrEmpty, UpTo, Number, Characters, PartReference};
 ghost use Rattle.identities.specs.Numbers.{partsOnly};
 ghost use Rattle.identities.specs.Numbers.{is as isOf};
 ghost use Rattle.identify.specs.Words.{widthIn, splitBy, ShapeOf, counts, isDivided, isBody};
@@ -51,8 +51,7 @@ fn is_number(x: &[u8]) -> bool
 fn is_characters(x: &[u8]) -> bool
     ensures { λ r. ⌜ r ≡ isOf Characters (now (x .entry)) ⌝ }
 {
-    let spelled = alphabet::read(x, 0);
-    0 < spelled.count
+    0 < alphabet::characters_in(x, 0)
 }
 
 // Whether a byte is a character of a part reference that stands for itself: a digit, a capital letter, or a dash.
@@ -111,7 +110,7 @@ fn is_part_reference(x: &[u8]) -> bool
 }
 
 // Whether a text is such a component.
-fn is(x: &[u8], c: Component) -> bool
+pub fn is(x: &[u8], c: Component) -> bool
     ensures { λ r. ⌜ r ≡ isOf c (now (x .entry)) ⌝ }
 {
     match c {
@@ -139,11 +138,30 @@ fn dot_in(x: &[u8]) -> usize
 }
 
 // A component that stands before a dot: the index of that dot.
-enum Before {
+pub enum Before {
     At(usize),
     Wrong,
 }
 
+// Zero or more digits before a dot.
+pub fn digits_before(x: &[u8]) -> Before
+    ensures { λ r. ⌜ r ≡ splitBy PaddedOrEmpty (now (x .entry)) ⌝ }
+{
+    let mut i = 0;
+    while i < x.len() {
+        let c = x[i];
+        if c == b'.' {
+            return Before::At(i);
+        }
+        if !digits::is_digit(c) {
+            break;
+        }
+        i += 1;
+    }
+    Before::Wrong
+}
+
+// Any component before a dot.
 fn split(x: &[u8], c: Component) -> Before
     ensures { λ r. ⌜ r ≡ splitBy c (now (x .entry)) ⌝ }
 {
@@ -158,7 +176,7 @@ fn split(x: &[u8], c: Component) -> Before
 }
 
 // The digits that the first two parts must have together.
-enum Total {
+pub enum Total {
     Of(usize),
     Any,
 }
@@ -206,12 +224,12 @@ fn is_triple(x: &[u8], a: Component, b: Component, c: Component, total: Total) -
 }
 
 // A family's components, and the digits of the first two together.
-enum Shape {
+pub enum Shape {
     Two(Component, Component, Total),
     Three(Component, Component, Component, Total),
 }
 
-fn about(f: Family) -> Shape
+pub fn about(f: Family) -> Shape
     ensures { λ r. ⌜ ShapeOf f r ⌝ }
 {
     match f {

@@ -1,12 +1,14 @@
 // The two calls of document 02, C-16: a tag text to the text of its pure identity, and an identity with a filter to a tag text. Any text and any
 // filter may come in: none has a condition, and each fixes its answer and every byte of the lent output. All is read before anything is
 // written. W plays no part, and is 0 in every answer.
+mod counted;
 mod families;
 mod form;
 mod tags;
 
 use codec::Answer;
 use codec::TEXT_ROOM;
+use counted::Verdict;
 use digits::put_bytes;
 use families::Named;
 use identities::Family;
@@ -57,9 +59,9 @@ fn number_or(body: &[u8], family: Family, number: u8) -> u8
     NOT_AN_IDENTITY
 }
 
-// The text behind a family's name, and a filter, to a tag text: what the codec takes is of the grammar, so that is looked at only where a number is
-// to be given.
-fn of_family(body: &[u8], family: Family, filter: u32, out: &mut [u8]) -> Answer
+// What follows the name of a family without a total, and a filter, to a tag text. What the codec takes is of the grammar, so that is looked at
+// only where a number is to be given.
+fn uncounted(body: &[u8], family: Family, filter: u32, out: &mut [u8]) -> Answer
     requires { ⌜ textRoom ≤ length (now out) ⌝ }
     ensures { λ r. ⌜ answered r (now (out .exit)) ≡ ofFamily family filter (now (body .entry)) (now (out .entry)) ⌝ }
 {
@@ -71,6 +73,29 @@ fn of_family(body: &[u8], family: Family, filter: u32, out: &mut [u8]) -> Answer
         return Answer::Refused(number_or(body, family, NO_SCHEME), 0);
     }
     Answer::Written(n, 0)
+}
+
+// What follows a family's name, and a filter, to a tag text: 23 by the verdict, 24, then 25 or the text.
+fn of_family(body: &[u8], family: Family, filter: u32, out: &mut [u8]) -> Answer
+    requires { ⌜ textRoom ≤ length (now out) ⌝ }
+    ensures { λ r. ⌜ answered r (now (out .exit)) ≡ ofFamily family filter (now (body .entry)) (now (out .entry)) ⌝ }
+{
+    match counted::judge(body, family) {
+        Verdict::WrongText => Answer::Refused(NOT_AN_IDENTITY, 0),
+        Verdict::Unheld => {
+            if families::most_filter(family) < filter {
+                return Answer::Refused(FILTER_TOO_LARGE, 0);
+            }
+            Answer::Refused(NO_SCHEME, 0)
+        }
+        Verdict::By(s) => {
+            if families::most_filter(family) < filter {
+                return Answer::Refused(FILTER_TOO_LARGE, 0);
+            }
+            Answer::Written(tags::put_text(out, body, s, filter), 0)
+        }
+        Verdict::Uncounted => uncounted(body, family, filter, out),
+    }
 }
 
 // An identity and a filter to a tag text: numbers 1, 23, 24 and 25. The scheme is the 96-bit one if it holds the identity, else the long one.

@@ -98,7 +98,7 @@ fn put_filter(out: &mut [u8], at: usize, s: Scheme, filter: u32) -> usize
 }
 
 // Writes the text of a scheme's tag with a filter and the parts of an identity from the output's start on, and returns its length.
-fn put_text(out: &mut [u8], body: &[u8], s: Scheme, filter: u32) -> usize
+pub fn put_text(out: &mut [u8], body: &[u8], s: Scheme, filter: u32) -> usize
     requires { ⌜ (filter ≤ 7) × (24 + length (now body) ≤ length (now out)) ⌝ }
     ensures { λ r. ⌜ Puts (tagText filter (now (body .entry)) s) 0 (now (out .entry)) r (now (out .exit)) ⌝ }
 {

@@ -23,10 +23,10 @@ use Rattle.identities.proofs.IdentityTexts.{one-identity}
 use Rattle.identities.proofs.Held.{identity-fits, tag-text, Held, held-is, held-split, held-of}
 
 -- A family's schemes.
-abbrev Bits : Scheme → ℕ
+abbrev pub Bits : Scheme → ℕ
 Bits s = about s .bits
 
-short-is : (f : Family) → (familyOf (short f) ≡ f) × (Bits (short f) ≡ 96)
+pub short-is : (f : Family) → (familyOf (short f) ≡ f) × (Bits (short f) ≡ 96)
 short-is Sgtin = (refl, refl)
 short-is Sscc = (refl, refl)
 short-is Sgln = (refl, refl)
@@ -39,10 +39,10 @@ short-is Gid = (refl, refl)
 short-is Sgcn = (refl, refl)
 short-is Cpi = (refl, refl)
 
-abbrev LongIs : Family → Scheme → Type 0
+abbrev pub LongIs : Family → Scheme → Type 0
 LongIs f s = (familyOf s ≡ f) × (¬ (Bits s ≡ 113))
 
-long-is : (f : Family) → Gives (LongIs f) (long f)
+pub long-is : (f : Family) → Gives (LongIs f) (long f)
 long-is Sgtin = (refl, λ e. omega arith)
 long-is Sscc = tt
 long-is Sgln = (refl, λ e. omega arith)

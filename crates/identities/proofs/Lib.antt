@@ -4,7 +4,6 @@ pub mod Divisions
 pub mod IdentityTexts
 pub mod TagTexts
 pub mod Held
-pub mod Pieces
 pub mod Choices
 pub mod IdentityReads
 pub mod Lengths

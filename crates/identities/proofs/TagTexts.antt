@@ -113,7 +113,7 @@ in-characters p s l = (digitsText p, digits-spelled p s, rw (digits-length p) l)
 prefix-padded : {p : List ℕ} → Fit company p → Is Padded (digitsText p)
 prefix-padded {p = p} h = in-padded p (h .symbols) (omega (arith, leb→le 6 (length p) (both (leb 6 (length p)) (leb (length p) 12) (h .shape) .0)))
 
-integer-characters : {b : ℕ} (p : List ℕ) → Fit (integer b) p → Is Characters (digitsText p)
+pub integer-characters : {b : ℕ} (p : List ℕ) → Fit (integer b) p → Is Characters (digitsText p)
 integer-characters p h = in-characters p (h .symbols) (some-digits p (h .shape))
 
 integer-number : {b : ℕ} (p : List ℕ) → Fit (integer b) p → Is Number (digitsText p)

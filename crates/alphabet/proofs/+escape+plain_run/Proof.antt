@@ -103,7 +103,7 @@ escape-returns-2 t c =
     (run .ensures .0 ∙ count-more (a .n) _ o _ e, keep-more (a .n) _ _ _ _ o _ e refl (run .ensures .1))
 
 escape-rest-requires : (t : ℕ) → escape-lts.Need-rest-requires (escape-calls t) (escape-at t) escape.Post
-escape-rest-requires t c κs = (within t (c .before .before), search needs, search needs)
+escape-rest-requires t c κs = (within t (c .before .before), search needs)
 
 escape-returns-3 : (t : ℕ) → escape-lts.Need-returns-3 (escape-calls t) (escape-at t) escape.Post
 escape-returns-3 t c =

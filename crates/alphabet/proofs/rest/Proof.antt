@@ -12,11 +12,11 @@ use Rattle.alphabet.proofs.rest.Statement.{statement}
 use Rattle.alphabet.proofs.rest.Tie as tie
 
 abbrev Inv-loop : tie.InvT-loop
-Inv-loop text at n classes i₀ m₀ i m =
+Inv-loop text at n i₀ m₀ i m =
     (i ≤ length text) × (m ≤ i) × (counted m (charactersIn (drop i text)) ≡ counted n (charactersIn (drop at text)))
 
 abbrev μ-loop : tie.MeasureT-loop
-μ-loop text at n classes i₀ m₀ i m = length text - i
+μ-loop text at n i₀ m₀ i m = length text - i
 
 -- what the width at i says
 one : (c : tie.After-width Inv-loop μ-loop) → let v = c .before .before .loop in

@@ -6,7 +6,6 @@ use borrow.Author.Needs.{needs}
 use borrow.Author.Tests.{eq-eqb, ne-eqb}
 use lib.ListN.{drop}
 use Rattle.alphabet.specs.Readers.{escapeIn, escapeWidth, widthIn}
-use Rattle.alphabet.proofs.Classes.{plain-class, other-class}
 use Rattle.digits.proofs.Runs.{drop-next}
 use Rattle.alphabet.proofs.Steps.{escape-some, escape-none}
 use Rattle.alphabet.proofs.width.Statement.{statement}
@@ -15,13 +14,13 @@ use Rattle.alphabet.proofs.width.Tie as tie
 itself : tie.Need-returns
 itself c =
     let a = c .before .before .before .before .args in
-    rw (drop-next (a .text .now) (a .at) (search needs), plain-class _ _ (c .before .class .ensures) (c .if1 .taken))
+    rw (drop-next (a .text .now) (a .at) (search needs), sym (c .before .stands .ensures) ∙ c .if1 .taken)
 
 other : tie.Need-returns-2
 other c =
     let asked = c .before .before in
     let a = asked .before .before .before .args in
-    rw (drop-next (a .text .now) (a .at) (search needs), other-class _ _ (asked .class .ensures) (c .before .if1 .left), ne-eqb _ _ (c .if2 .taken))
+    rw (drop-next (a .text .now) (a .at) (search needs), sym (asked .stands .ensures) ∙ c .before .if1 .left, ne-eqb _ _ (c .if2 .taken))
 
 -- at a percent sign the next two bytes decide
 module _ (c : tie.After-character-at) where
@@ -32,7 +31,7 @@ module _ (c : tie.After-character-at) where
   percent-sign =
       let asked = c .before .before .before in
       let a = asked .before .before .before .args in
-      rw (drop-next (a .text .now) (a .at) (search needs), other-class _ _ (asked .class .ensures) (c .before .before .if1 .left), eq-eqb _ _ (c .before .if2 .left))
+      rw (drop-next (a .text .now) (a .at) (search needs), sym (asked .stands .ensures) ∙ c .before .before .if1 .left, eq-eqb _ _ (c .before .if2 .left))
 
 no-digits : tie.Need-returns-3
 no-digits c =

@@ -8,9 +8,7 @@ use Rattle.identify.proofs.form.is_characters.Statement.{statement}
 use Rattle.identify.proofs.form.is_characters.Tie as tie
 
 counted : tie.Need-returns
-counted c =
-    let r = c .before in
-    ap (λ s. ltb 0 (s .count)) (r .read .ensures) ∙ some-characters (charactersIn (r .before .before .args .x .now))
+counted c = ap (ltb 0) (c .characters-in .ensures) ∙ some-characters (charactersIn (c .before .before .args .x .now))
 
 pub is-characters-spec : {M : Type 1} → statement M
 is-characters-spec =

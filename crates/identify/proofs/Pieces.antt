@@ -23,17 +23,10 @@ use Rattle.rules.specs.Grammar.{Role, prefix, Layout, part, end, bodyLayout, la
 use Rattle.rules.specs.TextNumbers.{numberAt, digitsIn, formed, partIn, lastIn, partsIn, tagOfText}
 use Rattle.rules.proofs.Tests.{both}
 use Rattle.rules.proofs.Rows.{row-picked}
 use Rattle.identities.specs.Numbers.{holds, filterText, tagText, ifTaken, heldBy}
 use Rattle.identities.proofs.TagTexts.{Sums, sum-of}
+use Rattle.identify.specs.Words.{held, fitting, inRow}
 use Rattle.identities.proofs.Held.{read-named}
-
--- a tag of the scheme has these parts
-abbrev pub held : List ℕ → Scheme → Bool
-held x s = holds (λ _. true) (heldBy 0 x s)
-
--- a text is a part of this form, and not too large
-abbrev pub fitting : Form → List ℕ → Bool
-fitting f t = holds (sized f) (formed f t)
 
 -- the parts of a layout, read without places
 abbrev pub fitsThen : Option (List ℕ) → (List ℕ → Bool) → (List ℕ → Bool) → Bool
@@ -44,7 +37,7 @@ abbrev pub fitsIn : Layout → List ℕ → Bool
 fitsIn (part r f k) t = among dot t && fitsThen (formed f (upto dot t)) (sized f) (λ p. fitsIn (k p) (behind dot t))
 fitsIn (end r f) t = fitting f t
 
-abbrev isTaken : {X : Type 0} → Answer X → Bool
+abbrev pub isTaken : {X : Type 0} → Answer X → Bool
 isTaken (refused n p) = false
 isTaken (taken x) = true
 
@@ -52,7 +45,7 @@ mapped : {X Y : Type 0} (a : Answer X) (f : X → Y) → isTaken (a >>= λ x. ta
 mapped (refused n p) f = refl
 mapped (taken x) f = refl
 
-last-taken : (n i : ℕ) (f : Form) (t : List ℕ) → isTaken (lastIn n i f t) ≡ fitting f t
+pub last-taken : (n i : ℕ) (f : Form) (t : List ℕ) → isTaken (lastIn n i f t) ≡ fitting f t
 last-taken n i f t = go (formed f t)
   where
     go : (o : Option (List ℕ)) → isTaken (given o n i >>= λ p. demand (sized f p) 8 i >> taken p) ≡ holds (sized f) o
@@ -108,10 +101,7 @@ held-body s body x e =
     holds-taken (tagOfText (tagText 0 x s)) ∙ ap isTaken (read-named s u) ∙ mapped (partsIn i (layout s) u) (λ ps. record { scheme = s; control = noFields; parts = ps })
     ∙ ap (λ q. isTaken (partsIn i (laid q) (filterText q 0 ++ x))) e ∙ past-filter body i x
 
--- Six to twelve digits pick a row.
-abbrev pub inRow : ℕ → Bool
-inRow n = leb 6 n && leb n 12
-
+-- Six to twelve digits pick a row; the reference of a counted family follows from the total.
 module _ (t : Table) (N : ℕ) (is-exact : exact t ≡ true) (sums : Sums t N) (x ds rs : List ℕ) (dotted : among dot x ≡ true) (read : digitsIn (upto dot x) ≡ some ds) where
   -- the reference has the row's digits, if the two have the total
   row-right : length ds + length rs ≡ N → inRow (length ds) ≡ true → eqb (length rs) (cell t (rowOf (length ds)) .1) ≡ true

@@ -1,0 +1,59 @@
+-- Two parts or three, with a total; without one there is no verdict.
+use mathlib.Core.Path.{_≡_, sym, ap, _∙_}
+use mathlib.Core.List.{_∷_, []}
+use mathlib.Core.Option.{none, some}
+use Rattle.identify.proofs.Judgements.{padded-first}
+use Rattle.identify.specs.Words.{isBody, holder, judgedAs, totalOf, componentsOf, totalIn}
+use borrow.Author.Needs.{needs}
+use Rattle.identify.proofs.counted.judge.Statement.{statement}
+use Rattle.identify.proofs.counted.judge.Tie as tie
+
+bare : tie.Need-two-requires
+bare c κs =
+    let t = c .before .total .given .1 in
+    let k = c .before .before .before .before in
+    let shape = k .before .before .about .ensures in
+    let e = k .a .given .1 in
+    record { components = sym (shape .components) ∙ ap componentsOf e; total = sym (shape .total) ∙ ap totalIn e ∙ ap totalOf t }
+
+serialised : tie.Need-three-requires
+serialised c κs =
+    let t = c .before .total2 .given .1 in
+    let k = c .before .before .before .before in
+    let h = k .before .before in
+    let shape = h .about .ensures in
+    let e = k .b .given .1 in
+    let q = sym (shape .components) ∙ ap componentsOf e in
+    record { components = q ∙ ap (λ y. y ∷ k .b .given .0 .1 .0 ∷ k .b .given .0 .1 .1 .0 ∷ []) (padded-first (h .before .before .args .f) _ _ _ _ q (sym (shape .total) ∙ ap totalIn e ∙ ap totalOf t)); total = sym (shape .total) ∙ ap totalIn e ∙ ap totalOf t }
+
+free-two : tie.Need-returns-2
+free-two c =
+    let k = c .before .before .before in
+    let h = k .before .before in
+    let a = h .before .before .args in
+    sym (ap (λ t. judgedAs t (isBody (a .f) (a .x .now)) (holder (a .f) (a .x .now))) (sym (h .about .ensures .total) ∙ ap totalIn (k .a .given .1) ∙ ap totalOf (c .enum-told .given .1)))
+
+free-three : tie.Need-returns-4
+free-three c =
+    let k = c .before .before .before in
+    let h = k .before .before in
+    let a = h .before .before .args in
+    sym (ap (λ t. judgedAs t (isBody (a .f) (a .x .now)) (holder (a .f) (a .x .now))) (sym (h .about .ensures .total) ∙ ap totalIn (k .b .given .1) ∙ ap totalOf (c .enum-told2 .given .1)))
+
+pub judge-spec : {M : Type 1} → statement M
+judge-spec =
+    tie.close
+    (tie.spec
+    (λ c κs. search needs)
+    (λ c. search needs)
+    (λ c. search needs)
+    bare
+    (λ c. search needs)
+    (λ c. search needs)
+    (λ c. search needs)
+    serialised
+    (λ c. search needs)
+    (λ c. c .two .ensures)
+    free-two
+    (λ c. c .three .ensures)
+    free-three)
