@@ -4,7 +4,7 @@ use mathlib.Core.Path.{_≡_}
 use mathlib.Core.List.{List, [], _∷_}
 use mathlib.Core.Option.{Option, none, some}
 use mathlib.Core.Bool.{cond}
-use lib.Dec.{eqb}
+use lib.Dec.{ltb, eqb}
 use lib.ListN.{length}
 use lib.Seq.{sets}
 use Rattle.rules.specs.Bytes.{percent}
@@ -43,3 +43,7 @@ escapeWidth (some c) = 3
 abbrev pub widthIn : List ℕ → ℕ
 widthIn [] = 0
 widthIn (c ∷ t) = cond (plain c) 1 (cond (eqb c percent) (escapeWidth (escapeIn t)) 0)
+
+-- the word that has a byte's bit: whether it stands for itself
+abbrev pub wordOf : ℕ → ℕ
+wordOf c = cond (ltb c 64) 0x2FFF7F8200000000 0x07FFFFFE87FFFFFE

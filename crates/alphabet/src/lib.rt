@@ -14,7 +14,7 @@ ghost use Rattle.rules.specs.Characters.{plain, spelling, stringText};
 ghost use Rattle.rules.specs.TextNumbers.{charactersIn};
 ghost use Rattle.rules.specs.BankNumbers.{stringIn};
 ghost use Rattle.alphabet.specs.Strings.{ClassTable, classOf, spelledOf, countOf};
-ghost use Rattle.alphabet.specs.Readers.{counted, Kept, escapeIn, foundOf, widthIn};
+ghost use Rattle.alphabet.specs.Readers.{counted, Kept, escapeIn, foundOf, widthIn, wordOf};
 
 // The class table. It is made once for a string and lent: a constant array is built anew wherever it is named.
 fn class_table() -> Classes
@@ -83,17 +83,24 @@ const PLAIN_BELOW_64: u64 = 0x2FFF7F8200000000;
 
 const PLAIN_FROM_64: u64 = 0x07FFFFFE87FFFFFE;
 
-// Whether a byte stands for itself, without the table: for a reader that keeps no characters, making that takes longer than most strings.
+fn word_of(c: u8) -> u64
+    ensures { λ r. ⌜ r ≡ wordOf c ⌝ }
+{
+    if c < 64 {
+        return PLAIN_BELOW_64;
+    }
+    PLAIN_FROM_64
+}
+
+// Whether a byte stands for itself, without the table: for a reader that keeps no characters, making that takes longer than most strings. Both
+// words are at hand, so that no branch depends on the character.
 fn stands(c: u8) -> bool
     ensures { λ r. ⌜ r ≡ plain c ⌝ }
 {
-    if c < 64 {
-        return (PLAIN_BELOW_64 >> c) % 2 == 1;
+    if 128 <= c {
+        return false;
     }
-    if c < 128 {
-        return (PLAIN_FROM_64 >> (c - 64)) % 2 == 1;
-    }
-    false
+    (word_of(c) >> (c % 64)) % 2 == 1
 }
 
 // How many bytes the character at index `at` takes: one, or three for an escape; 0 where no character begins there.

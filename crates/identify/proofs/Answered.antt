@@ -26,7 +26,7 @@ use Rattle.identities.proofs.IdentityTexts.{named-is}
 use Rattle.identities.proofs.Choices.{chosen-formed}
 use Rattle.identify.specs.declared.families.Named.the-variants.{Unlisted}
 use Rattle.identify.specs.declared.families.Named.the-variants.{Is as Found}
-use Rattle.identify.specs.Words.{foundOf, further, foundBehind, foundIn, isBody, PutIf, numberOr, ofFamily}
+use Rattle.identify.specs.Words.{foundOf, further, foundBehind, foundIn, isBody, ofFamily}
 
 -- Behind a family's name.
 module _ (g : Family) (f : ℕ) (x out : List ℕ) where
@@ -41,22 +41,22 @@ module _ (g : Family) (f : ℕ) (x out : List ℕ) where
       go none e w = rw e
       go (some ps) e w = let z : _≡_ {A = ℕ} 0 1 = cc in absurd (omega arith)
 
-  -- a filter above the limit: 23 or 24
-  pub over : mostFilter g < f → answered (Refused (numberOr g x 24) 0) out ≡ ofFamily g f x out
-  over l = go (bodyIn g x) refl
+  -- a filter above the limit: 24
+  pub over : isBody g x ≡ true → mostFilter g < f → answered (Refused 24 0) out ≡ ofFamily g f x out
+  over w l = go (bodyIn g x) refl w
     where
-      go : (o : Option (List (List ℕ))) → bodyIn g x ≡ o → answered (Refused (numberOr g x 24) 0) out ≡ ofFamily g f x out
-      go none e = rw e
-      go (some ps) e = rw (e, lt-leb f (mostFilter g) l)
+      go : (o : Option (List (List ℕ))) → bodyIn g x ≡ o → holds (λ (_ : List (List ℕ)). true) o ≡ true → answered (Refused 24 0) out ≡ ofFamily g f x out
+      go none e w = let z : _≡_ {A = ℕ} 0 1 = cc in absurd (omega arith)
+      go (some ps) e w = rw (e, lt-leb f (mostFilter g) l)
 
-  -- nothing is chosen: 23 or 25
-  pub unheld : f ≤ mostFilter g → chosen f g x ≡ none → answered (Refused (numberOr g x 25) 0) out ≡ ofFamily g f x out
-  unheld l n = go (bodyIn g x) refl (body-is g x)
+  -- nothing is chosen: 25
+  pub unheld : isBody g x ≡ true → f ≤ mostFilter g → chosen f g x ≡ none → answered (Refused 25 0) out ≡ ofFamily g f x out
+  unheld w l n = go (bodyIn g x) refl (body-is g x) w
     where
-      go : (o : Option (List (List ℕ))) → bodyIn g x ≡ o → Gives (λ xs. IdentityFits (record { family = g; parts = xs }) × (x ≡ joined xs)) o
-          → answered (Refused (numberOr g x 25) 0) out ≡ ofFamily g f x out
-      go none e h = rw e
-      go (some ps) e h = rw (e, le-leb f (mostFilter g) l, ap (chosen f g) (sym (h .1)) ∙ n)
+      go : (o : Option (List (List ℕ))) → bodyIn g x ≡ o → Gives (λ xs. IdentityFits (record { family = g; parts = xs }) × (x ≡ joined xs)) o → holds (λ (_ : List (List ℕ)). true) o ≡ true
+          → answered (Refused 25 0) out ≡ ofFamily g f x out
+      go none e h w = let z : _≡_ {A = ℕ} 0 1 = cc in absurd (omega arith)
+      go (some ps) e h w = rw (e, le-leb f (mostFilter g) l, ap (chosen f g) (sym (h .1)) ∙ n)
 
   -- what is chosen is written
   pub held : f ≤ mostFilter g → (τ : Tag) → chosen f g x ≡ some τ → (n : ℕ) (after : List ℕ) → n ≡ length (textOf τ) → after ≡ textOf τ ++ drop (length (textOf τ)) out
@@ -64,12 +64,6 @@ module _ (g : Family) (f : ℕ) (x out : List ℕ) where
   held l τ e n after k o =
       let (b, j) = chosen-formed f g x τ l e in
       rw (b, le-leb f (mostFilter g) l, ap (chosen f g) j ∙ e, k, o)
-
--- something was put
-pub put-some : (o : Option Tag) (out : List ℕ) (n : ℕ) (after : List ℕ) → PutIf o out n after → ¬ (n ≡ 0)
-    → (τ : Tag) × (o ≡ some τ) × (n ≡ length (textOf τ)) × (after ≡ textOf τ ++ drop (length (textOf τ)) out)
-put-some none out n after h k = absurd (k (h .0))
-put-some (some τ) out n after h k = (τ, refl, h .0, h .1)
 
 -- The family that a text names.
 pub no-family : (t : List ℕ) → Unlisted ≡ foundIn t → identityIn t ≡ none

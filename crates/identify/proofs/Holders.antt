@@ -9,14 +9,15 @@ use Rattle.rules.specs.declared.Scheme.{Scheme}
 use Rattle.rules.specs.Grammar.{Tag, TagText}
 use Rattle.rules.proofs.Answers.{Gives}
 use Rattle.identities.specs.declared.Family.{Family}
-use Rattle.identities.specs.Families.{familyOf, short, long, mostFilter}
+use Rattle.identities.specs.declared.Family.the-variants.{Sgtin, Sscc, Sgln, Grai, Giai, Gsrn, Gsrnp, Gdti, Gid, Sgcn, Cpi}
+use Rattle.identities.specs.Families.{about, familyOf, short, long, mostFilter}
 use Rattle.identities.specs.Grammar.{joined}
 use Rattle.identities.specs.OfTags.{identityOf}
 use Rattle.identities.specs.Numbers.{holds, tagText, heldBy, or-else, and-then, chosen}
 use Rattle.identities.proofs.Held.{held-is, held-split, held-of}
-use Rattle.identities.proofs.Choices.{short-is, LongIs, long-is}
+use Rattle.identities.proofs.Choices.{short-is, LongIs, long-is, chosen-formed}
 use Rattle.identify.specs.declared.counted.Verdict.the-variants.{WrongText, Unheld, By}
-use Rattle.identify.specs.Words.{held, heldIn, holder, judgedAs}
+use Rattle.identify.specs.Words.{isBody, held, heldIn, holder, judgedAs, judged}
 
 -- another filter, the same scheme
 refiltered : (f g : ℕ) (x : List ℕ) (s : Scheme) (σ : Tag) → f ≤ mostFilter (familyOf s) → g ≤ mostFilter (familyOf s) → heldBy f x s ≡ some σ → (τ : Tag) × (heldBy g x s ≡ some τ)
@@ -80,30 +81,43 @@ module _ (f : ℕ) (g : Family) (x : List ℕ) (l : f ≤ mostFilter g) where
       go false q (some r) h e = let (τ, b, t) = after r (h .0) (held x r) refl e in (τ, rw (holds-not f x (short g) in-short q) b, t)
 
 -- what a verdict says
-module _ (t : Option ℕ) (b : Bool) (o : Option Scheme) where
-  pub wrong-is : WrongText ≡ judgedAs t b o → b ≡ false
-  wrong-is e = go t b o e
-    where
-      go : (t : Option ℕ) (b : Bool) (o : Option Scheme) → WrongText ≡ judgedAs t b o → b ≡ false
-      go none b o e = let z : _≡_ {A = ℕ} 0 1 = cc in absurd (omega arith)
-      go (some n) false o e = refl
-      go (some n) true none e = let z : _≡_ {A = ℕ} 0 1 = cc in absurd (omega arith)
-      go (some n) true (some s) e = let z : _≡_ {A = ℕ} 0 1 = cc in absurd (omega arith)
+pub wrong-is : (b : Bool) (o : Option Scheme) → WrongText ≡ judgedAs b o → b ≡ false
+wrong-is false o e = refl
+wrong-is true none e = let z : _≡_ {A = ℕ} 0 1 = cc in absurd (omega arith)
+wrong-is true (some s) e = let z : _≡_ {A = ℕ} 0 1 = cc in absurd (omega arith)
 
-  pub unheld-is : Unheld ≡ judgedAs t b o → (b ≡ true) × (o ≡ none)
-  unheld-is e = go t b o e
-    where
-      go : (t : Option ℕ) (b : Bool) (o : Option Scheme) → Unheld ≡ judgedAs t b o → (b ≡ true) × (o ≡ none)
-      go none b o e = let z : _≡_ {A = ℕ} 0 1 = cc in absurd (omega arith)
-      go (some n) false o e = let z : _≡_ {A = ℕ} 0 1 = cc in absurd (omega arith)
-      go (some n) true none e = (refl, refl)
-      go (some n) true (some s) e = let z : _≡_ {A = ℕ} 0 1 = cc in absurd (omega arith)
+pub unheld-is : (b : Bool) (o : Option Scheme) → Unheld ≡ judgedAs b o → (b ≡ true) × (o ≡ none)
+unheld-is false o e = let z : _≡_ {A = ℕ} 0 1 = cc in absurd (omega arith)
+unheld-is true none e = (refl, refl)
+unheld-is true (some s) e = let z : _≡_ {A = ℕ} 0 1 = cc in absurd (omega arith)
 
-  pub by-is : (s : Scheme) → By s ≡ judgedAs t b o → (b ≡ true) × (o ≡ some s)
-  by-is s e = go t b o e
-    where
-      go : (t : Option ℕ) (b : Bool) (o : Option Scheme) → By s ≡ judgedAs t b o → (b ≡ true) × (o ≡ some s)
-      go none b o e = let z : _≡_ {A = ℕ} 0 1 = cc in absurd (omega arith)
-      go (some n) false o e = let z : _≡_ {A = ℕ} 0 1 = cc in absurd (omega arith)
-      go (some n) true none e = let z : _≡_ {A = ℕ} 0 1 = cc in absurd (omega arith)
-      go (some n) true (some r) e = (refl, cc)
+pub by-is : (b : Bool) (o : Option Scheme) (s : Scheme) → By s ≡ judgedAs b o → (b ≡ true) × (o ≡ some s)
+by-is false o s e = let z : _≡_ {A = ℕ} 0 1 = cc in absurd (omega arith)
+by-is true none s e = let z : _≡_ {A = ℕ} 0 1 = cc in absurd (omega arith)
+by-is true (some r) s e = (refl, cc)
+
+-- A family without a total has one scheme.
+one-scheme : (g : Family) → about g .total ≡ none → long g ≡ none
+one-scheme Sgtin e = let z : _≡_ {A = ℕ} 0 1 = cc e in absurd (omega arith)
+one-scheme Sscc e = let z : _≡_ {A = ℕ} 0 1 = cc e in absurd (omega arith)
+one-scheme Sgln e = let z : _≡_ {A = ℕ} 0 1 = cc e in absurd (omega arith)
+one-scheme Grai e = let z : _≡_ {A = ℕ} 0 1 = cc e in absurd (omega arith)
+one-scheme Giai e = refl
+one-scheme Gsrn e = let z : _≡_ {A = ℕ} 0 1 = cc e in absurd (omega arith)
+one-scheme Gsrnp e = let z : _≡_ {A = ℕ} 0 1 = cc e in absurd (omega arith)
+one-scheme Gdti e = let z : _≡_ {A = ℕ} 0 1 = cc e in absurd (omega arith)
+one-scheme Gid e = refl
+one-scheme Sgcn e = let z : _≡_ {A = ℕ} 0 1 = cc e in absurd (omega arith)
+one-scheme Cpi e = refl
+
+module _ (g : Family) (x : List ℕ) where
+  pub held-alone : about g .total ≡ none → held x (short g) ≡ true → By (short g) ≡ judged g x
+  held-alone t h =
+      let (τ, c, _) = somebody 0 g x (omega arith) (short g) (rw h refl) in
+      sym (ap (λ q. judgedAs q (holder g x)) (ap (holds λ (_ : List (List ℕ)). true) (chosen-formed 0 g x τ (omega arith) c .0)) ∙ rw h refl)
+
+  pub unheld-alone : about g .total ≡ none → held x (short g) ≡ false → isBody g x ≡ true → Unheld ≡ judged g x
+  unheld-alone t h b = sym (ap (λ q. judgedAs q (holder g x)) b ∙ rw (h, one-scheme g t) refl)
+
+  pub wrong-alone : isBody g x ≡ false → WrongText ≡ judged g x
+  wrong-alone b = sym (ap (λ q. judgedAs q (holder g x)) b)

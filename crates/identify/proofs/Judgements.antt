@@ -121,29 +121,29 @@ integer-is b z e = go (formed (integer b) z) (formed-decides (integer b) z) e
         is-true (is Characters z) (component-of Characters z (rw (s .1) (integer-characters {b = b} p (record { symbols = s .0; shape = k; size = rw e tt }))))
 
 -- The serial decides: an integer, or so many characters.
-module _ (n : ℕ) (s l : Scheme) (k N : ℕ) (row : Bool) (same : inRow n ≡ row) where
-  first-holds : (fs : Bool) → byRow n s ≡ judgedAs (some N) true (or-else (cond (row && true) (some s) none) (cond (row && fs) (some l) none))
+module _ (n : ℕ) (s l : Scheme) (k : ℕ) (row : Bool) (same : inRow n ≡ row) where
+  first-holds : (fs : Bool) → byRow n s ≡ judgedAs true (or-else (cond (row && true) (some s) none) (cond (row && fs) (some l) none))
   first-holds fs = rw same (go row)
     where
-      go : (r : Bool) → cond r (By s) Unheld ≡ judgedAs (some N) true (or-else (cond (r && true) (some s) none) (cond (r && fs) (some l) none))
+      go : (r : Bool) → cond r (By s) Unheld ≡ judgedAs true (or-else (cond (r && true) (some s) none) (cond (r && fs) (some l) none))
       go true = refl
       go false = refl
 
   by-characters : (o : Option (List ℕ))
-      → byCount n k l (countOf o) ≡ judgedAs (some N) (holds some-of o) (or-else (cond (row && false) (some s) none) (cond (row && holds (λ (cs : List ℕ). leb (length cs) k) (kept some-of o)) (some l) none))
+      → byCount n k l (countOf o) ≡ judgedAs (holds some-of o) (or-else (cond (row && false) (some s) none) (cond (row && holds (λ (cs : List ℕ). leb (length cs) k) (kept some-of o)) (some l) none))
   by-characters none = wrong row
     where
-      wrong : (r : Bool) → WrongText ≡ judgedAs (some N) false (or-else (cond (r && false) (some s) none) (cond (r && false) (some l) none))
+      wrong : (r : Bool) → WrongText ≡ judgedAs false (or-else (cond (r && false) (some s) none) (cond (r && false) (some l) none))
       wrong true = refl
       wrong false = refl
   by-characters (some []) = wrong row
     where
-      wrong : (r : Bool) → WrongText ≡ judgedAs (some N) false (or-else (cond (r && false) (some s) none) (cond (r && false) (some l) none))
+      wrong : (r : Bool) → WrongText ≡ judgedAs false (or-else (cond (r && false) (some s) none) (cond (r && false) (some l) none))
       wrong true = refl
       wrong false = refl
   by-characters (some (c ∷ cs)) = rw (same, lt-ltb 0 (suc (length cs)) (omega arith)) (go row (leb (suc (length cs)) k))
     where
-      go : (r q : Bool) → cond q (cond r (By l) Unheld) Unheld ≡ judgedAs (some N) true (or-else (cond (r && false) (some s) none) (cond (r && q) (some l) none))
+      go : (r q : Bool) → cond q (cond r (By l) Unheld) Unheld ≡ judgedAs true (or-else (cond (r && false) (some s) none) (cond (r && q) (some l) none))
       go true true = refl
       go true false = refl
       go false true = refl
@@ -156,7 +156,7 @@ module _ (f : Family) (b c : Component) (N : ℕ) (x : List ℕ) (serialised : S
   body-is = body-divided f (Of N) (Padded ∷ b ∷ c ∷ []) x (sym (serialised .components)) (sym (serialised .total))
 
   pub wrong-form : false ≡ isDivided (Of N) (Padded ∷ b ∷ c ∷ []) x → WrongText ≡ judged f x
-  wrong-form e = sym (ap (λ t. judgedAs t (isBody f x) (holder f x)) (serialised .total) ∙ ap (λ q. judgedAs (some N) q (holder f x)) (sym body-is ∙ sym e))
+  wrong-form e = sym (ap (λ q. judgedAs q (holder f x)) (sym body-is ∙ sym e))
 
   module _ (n m : ℕ) (i : Cut Padded x n) (j : Cut b (behind dot x) m) where
     formed-by-last : n + m ≡ N → isBody f x ≡ is c (behind dot (behind dot x))
@@ -182,12 +182,12 @@ module _ (f : Family) (b c : Component) (N : ℕ) (x : List ℕ) (serialised : S
         ∙ with-last-fits t N e h x ds rs (i .dotted) read l (j .dotted) read-again (omega (arith, sum, k, r))
         ∙ ap (λ n. inRow n && fitting (lastForm l) (behind dot (behind dot x))) k
 
-    -- the total is there, and the form is that of the last part
-    counts-and-forms : n + m ≡ N → judged f x ≡ judgedAs (some N) (is c (behind dot (behind dot x))) (holder f x)
-    counts-and-forms sum = ap (λ t. judgedAs t (isBody f x) (holder f x)) (serialised .total) ∙ ap (λ q. judgedAs (some N) q (holder f x)) (formed-by-last sum)
+    -- the form is that of the last part
+    counts-and-forms : n + m ≡ N → judged f x ≡ judgedAs (is c (behind dot (behind dot x))) (holder f x)
+    counts-and-forms sum = ap (λ q. judgedAs q (holder f x)) (formed-by-last sum)
 
     -- one scheme
-    sole : (r q : Bool) → cond q (cond r (By (short f)) Unheld) WrongText ≡ judgedAs (some N) q (or-else (cond (r && q) (some (short f)) none) none)
+    sole : (r q : Bool) → cond q (cond r (By (short f)) Unheld) WrongText ≡ judgedAs q (or-else (cond (r && q) (some (short f)) none) none)
     sole true true = refl
     sole false true = refl
     sole true false = refl
@@ -196,11 +196,11 @@ module _ (f : Family) (b c : Component) (N : ℕ) (x : List ℕ) (serialised : S
     -- two schemes
     either : (l : Scheme) (bits k : ℕ) (fi : Bool) → fitting (integer bits) (behind dot (behind dot x)) ≡ fi
         → cond fi (byRow n (short f)) (byCount n (k / 7) l (countOf (charactersIn (behind dot (behind dot x)))))
-        ≡ judgedAs (some N) (is Characters (behind dot (behind dot x))) (or-else (cond (inRow n && fi) (some (short f)) none) (cond (inRow n && fitting (string k) (behind dot (behind dot x))) (some l) none))
+        ≡ judgedAs (is Characters (behind dot (behind dot x))) (or-else (cond (inRow n && fi) (some (short f)) none) (cond (inRow n && fitting (string k) (behind dot (behind dot x))) (some l) none))
     either l bits k true e =
-        first-holds n (short f) l (k / 7) N (inRow n) refl (fitting (string k) (behind dot (behind dot x)))
-        ∙ ap (λ q. judgedAs (some N) q (or-else (cond (inRow n && true) (some (short f)) none) (cond (inRow n && fitting (string k) (behind dot (behind dot x))) (some l) none))) (sym (integer-is bits (behind dot (behind dot x)) e))
-    either l bits k false e = by-characters n (short f) l (k / 7) N (inRow n) refl (charactersIn (behind dot (behind dot x)))
+        first-holds n (short f) l (k / 7) (inRow n) refl (fitting (string k) (behind dot (behind dot x)))
+        ∙ ap (λ q. judgedAs q (or-else (cond (inRow n && true) (some (short f)) none) (cond (inRow n && fitting (string k) (behind dot (behind dot x))) (some l) none))) (sym (integer-is bits (behind dot (behind dot x)) e))
+    either l bits k false e = by-characters n (short f) l (k / 7) (inRow n) refl (charactersIn (behind dot (behind dot x)))
 
     pub last-decides : n + m ≡ N → byLast n (short f) (long f) c (behind dot (behind dot x)) ≡ judged f x
     last-decides sum = go (schemes-of f b c N serialised)
@@ -211,8 +211,8 @@ module _ (f : Family) (b c : Component) (N : ℕ) (x : List ℕ) (serialised : S
             let r = inRow n in
             ap (λ g. byLast n (short f) g c (behind dot (behind dot x))) alone ∙ sole r q
             ∙ sym (counts-and-forms sum
-            ∙ ap (λ h. judgedAs (some N) q (or-else (cond h (some (short f)) none) (and-then (long f) (heldIn x)))) (held-by (t, e, h) d sum (short f) l parts ∙ ap (r &&_) (is-last (behind dot (behind dot x))))
-            ∙ ap (λ g. judgedAs (some N) q (or-else (cond (r && q) (some (short f)) none) (and-then g (heldIn x)))) alone)
+            ∙ ap (λ h. judgedAs q (or-else (cond h (some (short f)) none) (and-then (long f) (heldIn x)))) (held-by (t, e, h) d sum (short f) l parts ∙ ap (r &&_) (is-last (behind dot (behind dot x))))
+            ∙ ap (λ g. judgedAs q (or-else (cond (r && q) (some (short f)) none) (and-then g (heldIn x)))) alone)
         go (two-schemes t bits k l e h parts long-is long-parts small chars d) =
             let u = behind dot (behind dot x) in
             let r = inRow n in
@@ -220,10 +220,10 @@ module _ (f : Family) (b c : Component) (N : ℕ) (x : List ℕ) (serialised : S
             ∙ ap (λ p. cond (fitting (integer (lastBits p)) u) (byRow n (short f)) (byCount n (lastBits (aboutScheme l .parts) / 7) l (countOf (charactersIn u)))) parts
             ∙ ap (λ p. cond (fitting (integer bits) u) (byRow n (short f)) (byCount n (lastBits p / 7) l (countOf (charactersIn u)))) long-parts
             ∙ either l bits k (fitting (integer bits) u) refl
-            ∙ sym (counts-and-forms sum ∙ ap (λ y. judgedAs (some N) (is y u) (holder f x)) chars
-            ∙ ap (λ h. judgedAs (some N) (is Characters u) (or-else (cond h (some (short f)) none) (and-then (long f) (heldIn x)))) (held-by (t, e, h) d sum (short f) (Integer bits) parts)
-            ∙ ap (λ g. judgedAs (some N) (is Characters u) (or-else (cond (r && fitting (integer bits) u) (some (short f)) none) (and-then g (heldIn x)))) long-is
-            ∙ ap (λ h. judgedAs (some N) (is Characters u) (or-else (cond (r && fitting (integer bits) u) (some (short f)) none) (cond h (some l) none))) (held-by (t, e, h) d sum l (String k) long-parts))
+            ∙ sym (counts-and-forms sum ∙ ap (λ y. judgedAs (is y u) (holder f x)) chars
+            ∙ ap (λ h. judgedAs (is Characters u) (or-else (cond h (some (short f)) none) (and-then (long f) (heldIn x)))) (held-by (t, e, h) d sum (short f) (Integer bits) parts)
+            ∙ ap (λ g. judgedAs (is Characters u) (or-else (cond (r && fitting (integer bits) u) (some (short f)) none) (and-then g (heldIn x)))) long-is
+            ∙ ap (λ h. judgedAs (is Characters u) (or-else (cond (r && fitting (integer bits) u) (some (short f)) none) (cond h (some l) none))) (held-by (t, e, h) d sum l (String k) long-parts))
 
 -- the bits of the 96-bit scheme's last part
 pub few-bits : (f : Family) (b c : Component) (N : ℕ) → Serialised f b c N → (lastBits (aboutScheme (short f) .parts) ≤ 63) × Digital b
@@ -265,7 +265,7 @@ module _ (f : Family) (a b : Component) (N : ℕ) (x : List ℕ) (bare : Bare f 
   pair-is = body-divided f (Of N) (Padded ∷ b ∷ []) x (ap (λ y. y ∷ b ∷ []) (sym (alone .first)) ∙ sym (bare .components)) (sym (bare .total))
 
   pub wrong-pair : false ≡ isDivided (Of N) (Padded ∷ b ∷ []) x → WrongText ≡ judged f x
-  wrong-pair e = sym (ap (λ t. judgedAs t (isBody f x) (holder f x)) (bare .total) ∙ ap (λ q. judgedAs (some N) q (holder f x)) (sym pair-is ∙ sym e))
+  wrong-pair e = sym (ap (λ q. judgedAs q (holder f x)) (sym pair-is ∙ sym e))
 
   module _ (n : ℕ) (i : Cut Padded x n) (right : is b (behind dot x) ≡ true) where
     pub wrong-sum : ¬ (length x - 1 ≡ N) → WrongText ≡ judged f x
@@ -279,11 +279,10 @@ module _ (f : Family) (a b : Component) (N : ℕ) (x : List ℕ) (bare : Bare f 
         let fits = held-body (short f) (Zeros (h .table) (h .zeros)) x (h .parts)
         ∙ alone-fits (h .table) N (h .is-exact) (h .sums) x ds rs (i .dotted) read (h .zeros) read-again (omega (arith, sum, k, r, i .sizes)) ∙ ap inRow k in
         go (inRow n)
-        ∙ sym (ap (λ t. judgedAs t (isBody f x) (holder f x)) (bare .total)
-        ∙ ap (λ q. judgedAs (some N) q (holder f x)) (sym pair-is ∙ sym (pair-right (Of N) Padded b x n i right (length x - 1) refl) ∙ eq-eqb (length x - 1) N sum)
-        ∙ ap (λ h. judgedAs (some N) true (or-else (cond h (some (short f)) none) (and-then (long f) (heldIn x)))) fits
-        ∙ ap (λ g. judgedAs (some N) true (or-else (cond (inRow n) (some (short f)) none) (and-then g (heldIn x)))) (h .no-long))
+        ∙ sym (ap (λ q. judgedAs q (holder f x)) (sym pair-is ∙ sym (pair-right (Of N) Padded b x n i right (length x - 1) refl) ∙ eq-eqb (length x - 1) N sum)
+        ∙ ap (λ h. judgedAs true (or-else (cond h (some (short f)) none) (and-then (long f) (heldIn x)))) fits
+        ∙ ap (λ g. judgedAs true (or-else (cond (inRow n) (some (short f)) none) (and-then g (heldIn x)))) (h .no-long))
       where
-        go : (r : Bool) → cond r (By (short f)) Unheld ≡ judgedAs (some N) true (or-else (cond r (some (short f)) none) none)
+        go : (r : Bool) → cond r (By (short f)) Unheld ≡ judgedAs true (or-else (cond r (some (short f)) none) none)
         go true = refl
         go false = refl

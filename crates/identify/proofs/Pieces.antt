@@ -1,6 +1,6 @@
 -- Whether a scheme holds what follows a family's name, told by the pieces of it: what stands before the first dot, before the second, and behind it.
-use Prim.Native.Nat.{ℕ, _+_, _≤_}
-use mathlib.Core.Path.{_≡_, refl, sym, ap, _∙_}
+use Prim.Native.Nat.{ℕ, _+_}
+use mathlib.Core.Path.{_≡_, refl, ap, _∙_}
 use mathlib.Core.List.{List, [], _∷_, _++_}
 use mathlib.Core.Option.{Option, none, some}
 use mathlib.Core.Bool.{Bool, true, false, _&&_, cond}
@@ -14,28 +14,18 @@ use Rattle.rules.specs.declared.Table.{Table}
 use Rattle.rules.specs.declared.Last.{Last}
 use Rattle.rules.specs.declared.Body.{Body}
 use Rattle.rules.specs.declared.Body.the-variants.{Then, Zeros}
-use Rattle.rules.specs.declared.Parts.the-variants.{F}
-use Rattle.rules.specs.Answers.{Answer, refused, taken, _>>=_, _>>_, demand, given, kept}
+use Rattle.rules.specs.declared.Parts.the-variants.{F, Integers}
+use Rattle.rules.specs.Answers.{Answer, refused, taken, _>>=_, _>>_, demand, given}
 use Rattle.rules.specs.Bytes.{among, upto, behind, dot}
-use Rattle.rules.specs.Schemes.{Form, company, exact, cell, rowDigits, lastForm, rowOf, about}
+use Rattle.rules.specs.Schemes.{Form, company, exact, cell, lastForm, rowOf, about}
 use Rattle.rules.specs.ControlFields.{noFields, controlText}
 use Rattle.rules.specs.Grammar.{Role, prefix, Layout, part, end, bodyLayout, laid, layout, sized, start, label}
 use Rattle.rules.specs.TextNumbers.{numberAt, digitsIn, formed, partIn, lastIn, partsIn, tagOfText}
 use Rattle.rules.proofs.Tests.{both}
-use Rattle.rules.proofs.Rows.{row-picked}
 use Rattle.identities.specs.Numbers.{holds, filterText, tagText, ifTaken, heldBy}
 use Rattle.identities.proofs.TagTexts.{Sums, sum-of}
-use Rattle.identify.specs.Words.{held, fitting, inRow}
+use Rattle.identify.specs.Words.{held, fitting, fitsThen, fitsIn, inRow}
 use Rattle.identities.proofs.Held.{read-named}
-
--- the parts of a layout, read without places
-abbrev pub fitsThen : Option (List ℕ) → (List ℕ → Bool) → (List ℕ → Bool) → Bool
-fitsThen none size go = false
-fitsThen (some p) size go = size p && go p
-
-abbrev pub fitsIn : Layout → List ℕ → Bool
-fitsIn (part r f k) t = among dot t && fitsThen (formed f (upto dot t)) (sized f) (λ p. fitsIn (k p) (behind dot t))
-fitsIn (end r f) t = fitting f t
 
 abbrev pub isTaken : {X : Type 0} → Answer X → Bool
 isTaken (refused n p) = false
@@ -93,13 +83,52 @@ holds-taken : {X : Type 0} (a : Answer X) → holds (λ _. true) (ifTaken a) ≡
 holds-taken (refused n p) = refl
 holds-taken (taken x) = refl
 
+module _ (s : Scheme) (x : List ℕ) where
+  -- what the scheme's layout says of the text behind the name
+  by-layout : held x s ≡ isTaken (partsIn (length start + length (controlText noFields) + length (label s)) (layout s) (filterText (about s .parts) 0 ++ x))
+  unfolding heldBy
+  by-layout =
+      let u = filterText (about s .parts) 0 ++ x in
+      holds-taken (tagOfText (tagText 0 x s)) ∙ ap isTaken (read-named s u)
+      ∙ mapped (partsIn (length start + length (controlText noFields) + length (label s)) (layout s) u) (λ ps. record { scheme = s; control = noFields; parts = ps })
+
 pub held-body : (s : Scheme) (body : Body) (x : List ℕ) → about s .parts ≡ F body → held x s ≡ fitsIn (behindFilter body) x
-unfolding heldBy
 held-body s body x e =
     let i = length start + length (controlText noFields) + length (label s) in
-    let u = filterText (about s .parts) 0 ++ x in
-    holds-taken (tagOfText (tagText 0 x s)) ∙ ap isTaken (read-named s u) ∙ mapped (partsIn i (layout s) u) (λ ps. record { scheme = s; control = noFields; parts = ps })
-    ∙ ap (λ q. isTaken (partsIn i (laid q) (filterText q 0 ++ x))) e ∙ past-filter body i x
+    by-layout s x ∙ ap (λ q. isTaken (partsIn i (laid q) (filterText q 0 ++ x))) e ∙ past-filter body i x
+
+pub held-integers : (s : Scheme) (a b c : ℕ) (x : List ℕ) → about s .parts ≡ Integers a b c → held x s ≡ fitsIn (laid (Integers a b c)) x
+held-integers s a b c x e =
+    let i = length start + length (controlText noFields) + length (label s) in
+    by-layout s x ∙ ap (λ q. isTaken (partsIn i (laid q) (filterText q 0 ++ x))) e ∙ parts-taken (laid (Integers a b c)) i x
+
+-- One part of a layout: taken, the rest decides; refused, the text does not fit.
+module _ (r : Role) (f : Form) (k : List ℕ → Layout) (t : List ℕ) (n i : ℕ) where
+  pub part-fits : (p : List ℕ) → partIn n i f t ≡ taken p → fitsIn (part r f k) t ≡ fitsIn (k p) (behind dot t)
+  part-fits p e = dots (among dot t) refl (formed f (upto dot t)) refl e
+    where
+      sizes : (q : List ℕ) (b : Bool) → (demand b n i >> taken q) ≡ taken p → b && fitsIn (k q) (behind dot t) ≡ fitsIn (k p) (behind dot t)
+      sizes q true e = let z : q ≡ p = cc in ap (λ y. fitsIn (k y) (behind dot t)) z
+      sizes q false e = let z : _≡_ {A = ℕ} 0 1 = cc in absurd (omega arith)
+
+      dots : (b : Bool) → among dot t ≡ b → (o : Option (List ℕ)) → formed f (upto dot t) ≡ o → (demand b n i >> (given o n i >>= λ q. demand (sized f q) n i >> taken q)) ≡ taken p
+          → b && fitsThen o (sized f) (λ q. fitsIn (k q) (behind dot t)) ≡ fitsIn (k p) (behind dot t)
+      dots false d o h e = let z : _≡_ {A = ℕ} 0 1 = cc in absurd (omega arith)
+      dots true d none h e = let z : _≡_ {A = ℕ} 0 1 = cc in absurd (omega arith)
+      dots true d (some q) h e = sizes q (sized f q) e
+
+  pub part-not : (m j : ℕ) → partIn n i f t ≡ refused m j → fitsIn (part r f k) t ≡ false
+  part-not m j e = dots (among dot t) (formed f (upto dot t)) e
+    where
+      sizes : (q : List ℕ) (b : Bool) → (demand b n i >> taken q) ≡ refused m j → b && fitsIn (k q) (behind dot t) ≡ false
+      sizes q true e = let z : _≡_ {A = ℕ} 0 1 = cc in absurd (omega arith)
+      sizes q false e = refl
+
+      dots : (b : Bool) (o : Option (List ℕ)) → (demand b n i >> (given o n i >>= λ q. demand (sized f q) n i >> taken q)) ≡ refused m j
+          → b && fitsThen o (sized f) (λ q. fitsIn (k q) (behind dot t)) ≡ false
+      dots false o e = refl
+      dots true none e = refl
+      dots true (some q) e = sizes q (sized f q) e
 
 -- Six to twelve digits pick a row; the reference of a counted family follows from the total.
 module _ (t : Table) (N : ℕ) (is-exact : exact t ≡ true) (sums : Sums t N) (x ds rs : List ℕ) (dotted : among dot x ≡ true) (read : digitsIn (upto dot x) ≡ some ds) where

@@ -1,11 +1,11 @@
 -- What the code holds of a family and of an identity's text.
 use Prim.Native.Nat.{ℕ, zero, suc, _+_, _/_}
 use mathlib.Core.Path.{_≡_}
-use mathlib.Core.List.{List, [], _∷_, _++_}
+use mathlib.Core.List.{List, [], _∷_}
 use mathlib.Core.Option.{Option, none, some}
 use mathlib.Core.Bool.{Bool, true, false, _&&_, cond}
 use lib.Dec.{leb, ltb, eqb}
-use lib.ListN.{length, drop, getD}
+use lib.ListN.{length, getD}
 use Rattle.rules.specs.declared.Scheme.{Scheme}
 use Rattle.rules.specs.declared.ControlFields.{ControlFields}
 use Rattle.rules.specs.declared.Last.{Last}
@@ -14,11 +14,11 @@ use Rattle.rules.specs.declared.Body.the-variants.{Then, Zeros, E}
 use Rattle.rules.specs.declared.Parts.{Parts}
 use Rattle.rules.specs.declared.Parts.the-variants.{F, Integers}
 use Rattle.rules.specs.Answers.{taken, _>>=_}
-use Rattle.rules.specs.Bytes.{bytes, among, upto, dot}
+use Rattle.rules.specs.Bytes.{bytes, among, upto, behind, dot}
 use Rattle.rules.specs.Schemes.{Form, integer}
 use Rattle.rules.specs.Schemes.{about as aboutScheme}
 use Rattle.rules.specs.ControlFields.{controlText}
-use Rattle.rules.specs.Grammar.{sized, Tag, textOf}
+use Rattle.rules.specs.Grammar.{Layout, part, end, sized, textOf}
 use Rattle.rules.specs.Grammar.{label as schemeLabel}
 use Rattle.rules.specs.TextNumbers.{after, charactersIn, formed}
 use Rattle.alphabet.specs.Strings.{countOf}
@@ -38,7 +38,7 @@ use Rattle.identify.specs.declared.families.Named.{Named}
 use Rattle.identify.specs.declared.families.Named.the-variants.{Unlisted}
 use Rattle.identify.specs.declared.families.Named.the-variants.{Is as Found}
 use Rattle.identify.specs.declared.counted.Verdict.{Verdict}
-use Rattle.identify.specs.declared.counted.Verdict.the-variants.{WrongText, Unheld, By, Uncounted}
+use Rattle.identify.specs.declared.counted.Verdict.the-variants.{WrongText, Unheld, By}
 use Rattle.identify.specs.declared.form.Before.{Before}
 use Rattle.identify.specs.declared.form.Before.the-variants.{At, Wrong}
 use Rattle.identify.specs.declared.form.Total.{Total}
@@ -120,7 +120,7 @@ pub record ShapeOf (f : Family) (r : Shape) : Type 0 where
 abbrev pub isBody : Family → List ℕ → Bool
 isBody f x = holds (λ _. true) (bodyIn f x)
 
--- COUNTED FAMILIES
+-- THE VERDICT
 
 -- a tag of the scheme has these parts, whatever its filter
 abbrev pub held : List ℕ → Scheme → Bool
@@ -133,19 +133,27 @@ heldIn x s = cond (held x s) (some s) none
 abbrev pub holder : Family → List ℕ → Option Scheme
 holder g x = or-else (heldIn x (short g)) (and-then (long g) (heldIn x))
 
--- the verdict of a family with a total: whether its text is of the grammar, and the scheme that holds it
-abbrev pub judgedAs : Option ℕ → Bool → Option Scheme → Verdict
-judgedAs none right o = Uncounted
-judgedAs (some n) false o = WrongText
-judgedAs (some n) true none = Unheld
-judgedAs (some n) true (some s) = By s
+-- the verdict: whether the text is of the grammar, and the scheme that holds it
+abbrev pub judgedAs : Bool → Option Scheme → Verdict
+judgedAs false o = WrongText
+judgedAs true none = Unheld
+judgedAs true (some s) = By s
 
 abbrev pub judged : Family → List ℕ → Verdict
-judged g x = judgedAs (about g .total) (isBody g x) (holder g x)
+judged g x = judgedAs (isBody g x) (holder g x)
 
 -- a text is a part of this form, and not too large
 abbrev pub fitting : Form → List ℕ → Bool
 fitting f t = holds (sized f) (formed f t)
+
+-- the parts of a layout, read without places
+abbrev pub fitsThen : Option (List ℕ) → (List ℕ → Bool) → (List ℕ → Bool) → Bool
+fitsThen none size go = false
+fitsThen (some p) size go = size p && go p
+
+abbrev pub fitsIn : Layout → List ℕ → Bool
+fitsIn (part r f k) t = among dot t && fitsThen (formed f (upto dot t)) (sized f) (λ p. fitsIn (k p) (behind dot t))
+fitsIn (end r f) t = fitting f t
 
 -- six to twelve digits pick a row
 abbrev pub inRow : ℕ → Bool
@@ -205,16 +213,7 @@ pub record Bare (f : Family) (a b : Component) (n : ℕ) : Type 0 where
 abbrev pub bodyAt : ControlFields → Scheme → ℕ
 bodyAt c s = 12 + length (controlText c) + length (schemeLabel s) + length (filterText (aboutScheme s .parts) 0)
 
--- a tag's text was written at the output's start, if there is a tag; if there is none, nothing was
-abbrev pub PutIf : Option Tag → List ℕ → ℕ → List ℕ → Type 0
-PutIf none out n after = (n ≡ 0) × (after ≡ out)
-PutIf (some τ) out n after = (n ≡ length (textOf τ)) × (after ≡ textOf τ ++ drop (length (textOf τ)) out)
-
 -- THE CALL
-
--- 23 where a text is not what follows a family's name; else the number
-abbrev pub numberOr : Family → List ℕ → ℕ → ℕ
-numberOr f x n = cond (isBody f x) n 23
 
 -- the call for what follows a family's name
 abbrev pub ofFamily : Family → ℕ → List ℕ → List ℕ → Call

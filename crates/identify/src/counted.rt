@@ -4,9 +4,6 @@ use super::families::LongScheme;
 use super::families::long;
 use super::families::short;
 use super::form::Before;
-use super::form::Shape;
-use super::form::Total;
-use super::form::about;
 use super::form::digits_before;
 use super::form::is;
 use identities::Component;
@@ -26,12 +23,11 @@ ghost use Rattle.rules.specs.Schemes.{about as aboutOf};
 ghost use Rattle.identities.specs.Families.{short as shortOf, long as longSchemeOf};
 ghost use Rattle.identify.specs.Words.{judged, fitting, byRow, lastBits, isThere, bySerial, byLast, Serialised, Bare};
 
-// What follows a family's name: not of the grammar, held by no scheme, or held by this one. A family without such a sum is not judged here.
+// What follows a family's name: not of the grammar, held by no scheme, or held by this one.
 pub enum Verdict {
     WrongText,
     Unheld,
     By(Scheme),
-    Uncounted,
 }
 
 // A scheme holds what it is asked for if the prefix, of n digits, picks a row.
@@ -67,7 +63,7 @@ fn last_bits(s: Scheme) -> usize
 }
 
 // Whether the rest of the text from index `at` on is an integer of so many bits.
-fn is_integer(x: &[u8], at: usize, bits: usize) -> bool
+pub fn is_integer(x: &[u8], at: usize, bits: usize) -> bool
     requires { ⌜ (at ≤ length (now x)) × (bits ≤ 63) ⌝ }
     ensures { λ r. ⌜ r ≡ fitting (integer bits) (drop at (now (x .entry))) ⌝ }
 {
@@ -126,7 +122,7 @@ fn is_there(b: Component, n: usize) -> bool
 }
 
 // Prefix, reference and last part.
-fn three(x: &[u8], f: Family, b: Component, c: Component, total: usize) -> Verdict
+pub fn three(x: &[u8], f: Family, b: Component, c: Component, total: usize) -> Verdict
     requires { ⌜ Serialised f b c total ⌝ }
     ensures { λ r. ⌜ r ≡ judged f (now (x .entry)) ⌝ }
 {
@@ -150,7 +146,7 @@ fn three(x: &[u8], f: Family, b: Component, c: Component, total: usize) -> Verdi
 }
 
 // Prefix and reference alone.
-fn two(x: &[u8], f: Family, a: Component, b: Component, total: usize) -> Verdict
+pub fn two(x: &[u8], f: Family, a: Component, b: Component, total: usize) -> Verdict
     requires { ⌜ Bare f a b total ⌝ }
     ensures { λ r. ⌜ r ≡ judged f (now (x .entry)) ⌝ }
 {
@@ -168,20 +164,4 @@ fn two(x: &[u8], f: Family, a: Component, b: Component, total: usize) -> Verdict
         return Verdict::WrongText;
     }
     by_row(n, short(f))
-}
-
-// The verdict on what follows a family's name.
-pub fn judge(x: &[u8], f: Family) -> Verdict
-    ensures { λ r. ⌜ r ≡ judged f (now (x .entry)) ⌝ }
-{
-    match about(f) {
-        Shape::Two(a, b, total) => match total {
-            Total::Of(n) => two(x, f, a, b, n),
-            Total::Any => Verdict::Uncounted,
-        },
-        Shape::Three(_, b, c, total) => match total {
-            Total::Of(n) => three(x, f, b, c, n),
-            Total::Any => Verdict::Uncounted,
-        },
-    }
 }

@@ -4,6 +4,7 @@
 mod counted;
 mod families;
 mod form;
+mod judge;
 mod tags;
 
 use codec::Answer;
@@ -19,7 +20,7 @@ ghost use lib.ListN.{length};
 ghost use Rattle.rules.specs.Calls.{textRoom};
 ghost use Rattle.codec.specs.Answers.{answered};
 ghost use Rattle.identities.specs.Calls.{tagToIdentity, identityToTag};
-ghost use Rattle.identify.specs.Words.{numberOr, ofFamily};
+ghost use Rattle.identify.specs.Words.{ofFamily};
 
 // The numbers of an identity, by name (document 02, C-16).
 pub const NOT_AN_IDENTITY: u8 = 23;
@@ -49,38 +50,12 @@ pub fn tag_to_identity(text: &[u8], out: &mut [u8]) -> Answer
     Answer::Written(put_bytes(out, at, &text[behind..]), 0)
 }
 
-// 23 where the text behind a family's name is not of its grammar; else the number that applies then.
-fn number_or(body: &[u8], family: Family, number: u8) -> u8
-    ensures { λ r. ⌜ r ≡ numberOr family (now (body .entry)) number ⌝ }
-{
-    if form::is_body(body, family) {
-        return number;
-    }
-    NOT_AN_IDENTITY
-}
-
-// What follows the name of a family without a total, and a filter, to a tag text. What the codec takes is of the grammar, so that is looked at
-// only where a number is to be given.
-fn uncounted(body: &[u8], family: Family, filter: u32, out: &mut [u8]) -> Answer
-    requires { ⌜ textRoom ≤ length (now out) ⌝ }
-    ensures { λ r. ⌜ answered r (now (out .exit)) ≡ ofFamily family filter (now (body .entry)) (now (out .entry)) ⌝ }
-{
-    if families::most_filter(family) < filter {
-        return Answer::Refused(number_or(body, family, FILTER_TOO_LARGE), 0);
-    }
-    let n = tags::put_chosen(body, family, filter, out);
-    if n == 0 {
-        return Answer::Refused(number_or(body, family, NO_SCHEME), 0);
-    }
-    Answer::Written(n, 0)
-}
-
 // What follows a family's name, and a filter, to a tag text: 23 by the verdict, 24, then 25 or the text.
 fn of_family(body: &[u8], family: Family, filter: u32, out: &mut [u8]) -> Answer
     requires { ⌜ textRoom ≤ length (now out) ⌝ }
     ensures { λ r. ⌜ answered r (now (out .exit)) ≡ ofFamily family filter (now (body .entry)) (now (out .entry)) ⌝ }
 {
-    match counted::judge(body, family) {
+    match judge::judge(body, family) {
         Verdict::WrongText => Answer::Refused(NOT_AN_IDENTITY, 0),
         Verdict::Unheld => {
             if families::most_filter(family) < filter {
@@ -94,7 +69,6 @@ fn of_family(body: &[u8], family: Family, filter: u32, out: &mut [u8]) -> Answer
             }
             Answer::Written(tags::put_text(out, body, s, filter), 0)
         }
-        Verdict::Uncounted => uncounted(body, family, filter, out),
     }
 }
 

@@ -1,10 +1,5 @@
-// The tag texts of an identity: a scheme holds it if the codec takes the text that its tag would have.
-use super::families::LongScheme;
-use super::families::long;
-use super::families::short;
-use codec::TEXT_ROOM;
+// The tag text of an identity: where the identity's parts stand in it, and how it is made of them.
 use digits::put_bytes;
-use identities::Family;
 use rules::ControlFields;
 use rules::Parts;
 use rules::Scheme;
@@ -15,15 +10,12 @@ ghost use lib.ListN.{length};
 ghost use Rattle.rules.specs.Schemes.{about as aboutOf};
 ghost use Rattle.rules.specs.ControlFields.{controlText, ControlFits};
 ghost use Rattle.rules.specs.Grammar.{label};
-ghost use Rattle.rules.specs.Calls.{textRoom};
 ghost use Rattle.digits.specs.Pieces.{Puts};
-ghost use Rattle.identities.specs.Numbers.{filterText, tagText, heldBy, chosen};
-ghost use Rattle.identify.specs.Words.{bodyAt, PutIf};
+ghost use Rattle.identities.specs.Numbers.{filterText, tagText};
+ghost use Rattle.identify.specs.Words.{bodyAt};
 
-// How many characters `urn:epc:tag:` has, and the longest tag text.
+// How many characters `urn:epc:tag:` has.
 const START: usize = 12;
-
-const MOST_TEXT: usize = 116;
 
 // How many characters control fields have, with the colon behind the last.
 fn control_length(control: ControlFields) -> usize
@@ -106,37 +98,4 @@ pub fn put_text(out: &mut [u8], body: &[u8], s: Scheme, filter: u32) -> usize
     let at = text::writing::put_label(out, name, s);
     let parts = put_filter(out, at, s, filter);
     put_bytes(out, parts, body)
-}
-
-// Writes that text if the codec takes it, and returns its length; if not, 0, and the output is as it was. It is made in a line of its own first, and
-// only if it is no longer than a tag text can be.
-fn put_held(body: &[u8], s: Scheme, filter: u32, out: &mut [u8]) -> usize
-    requires { ⌜ (filter ≤ 7) × (textRoom ≤ length (now out)) ⌝ }
-    ensures { λ r. ⌜ PutIf (heldBy filter (now (body .entry)) s) (now (out .entry)) r (now (out .exit)) ⌝ }
-{
-    if MOST_TEXT < body.len() {
-        return 0;
-    }
-    let mut line = [0u8; TEXT_ROOM];
-    let n = put_text(&mut line, body, s, filter);
-    let reading = text::reading::read(&line[..n]);
-    if reading.number != 0 {
-        return 0;
-    }
-    put_bytes(out, 0, &line[..n])
-}
-
-// The same for the scheme that is chosen: the 96-bit one if it holds the identity, else the long one.
-pub fn put_chosen(body: &[u8], family: Family, filter: u32, out: &mut [u8]) -> usize
-    requires { ⌜ (filter ≤ 7) × (textRoom ≤ length (now out)) ⌝ }
-    ensures { λ r. ⌜ PutIf (chosen filter family (now (body .entry))) (now (out .entry)) r (now (out .exit)) ⌝ }
-{
-    let n = put_held(body, short(family), filter, out);
-    if n != 0 {
-        return n;
-    }
-    match long(family) {
-        LongScheme::Is(s) => put_held(body, s, filter, out),
-        LongScheme::Nothing => 0,
-    }
 }

@@ -1,12 +1,16 @@
 -- Each bit of the two words says what the rules say of its byte.
 use Prim.Native.Nat.{ℕ, _+_, _-_, _/_, _%_, _^_, _≤_, _<_}
 use mathlib.Core.Path.{_≡_, refl, sym, ap, _∙_}
-use mathlib.Core.Bool.{Bool, true, false, not}
+use mathlib.Core.Bool.{Bool, true, false, not, cond}
+use mathlib.Core.Logic.{⊎-elim}
 use native.Mathlib.Omega.{arith}
-use lib.Dec.{T, eqb}
+use lib.Dec.{T, ltb, eqb}
+use borrow.Author.Tests.{lt-ltb, le-ltb}
+use Rattle.numeral.proofs.Arithmetic.{lt-or-ge}
 use borrow.Author.Needs.{needs}
 use Rattle.rules.specs.Characters.{tableA1, escaped, plain}
 use Rattle.rules.proofs.Tests.{below, below-is, is-false}
+use Rattle.alphabet.specs.Readers.{wordOf}
 use Rattle.alphabet.proofs.stands.Statement.{statement}
 use Rattle.alphabet.proofs.stands.Tie as tie
 
@@ -49,14 +53,20 @@ from-128 c l u =
     let e : 128 + (c - 128) ≡ c = omega arith in
     sym (is-false (plain c) (rw e at (below-is (λ i. not (plain (128 + i))) 128 above (c - 128) (omega arith))))
 
-first : tie.Need-returns
-first c = below-64 (c .before .args .c) (c .if1 .taken)
+below-128 : (c : ℕ) → c < 128 → bit (wordOf c) (c % 64) ≡ plain c
+below-128 c h = ⊎-elim (λ (l : c < 64). low-word l) (λ (m : 64 ≤ c). high-word m) (lt-or-ge c 64)
+  where
+    low-word : c < 64 → bit (wordOf c) (c % 64) ≡ plain c
+    low-word l = let e : c % 64 ≡ c = omega arith in rw (lt-ltb c 64 l, e) (below-64 c l)
 
-second : tie.Need-returns-2
-second c = from-64 (c .before .before .args .c) (c .before .if1 .left) (c .if2 .taken)
+    high-word : 64 ≤ c → bit (wordOf c) (c % 64) ≡ plain c
+    high-word m = let e : c % 64 ≡ c - 64 = omega arith in rw (le-ltb c 64 m, e) (from-64 c m h)
 
-other : tie.Need-returns-3
-other c = from-128 (c .before .before .args .c) (c .if2 .left) (search needs)
+other : tie.Need-returns
+other c = from-128 (c .before .args .c) (c .if1 .taken) (search needs)
+
+bits : tie.Need-returns-2
+bits c = ap (λ w. bit w (c .before .before .args .c % 64)) (c .word-of .ensures) ∙ below-128 (c .before .before .args .c) (c .before .if1 .left)
 
 pub stands-spec : {M : Type 1} → statement M
-stands-spec = tie.close (tie.spec (λ c. search needs) first (λ c. search needs) (λ c. search needs) second other)
+stands-spec = tie.close (tie.spec other (λ c κs. search needs) (λ c. search needs) (λ c. search needs) bits)

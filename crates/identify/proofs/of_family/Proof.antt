@@ -10,10 +10,10 @@ use Rattle.rules.specs.Grammar.{Tag, TagText}
 use Rattle.codec.specs.Answers.{answered}
 use Rattle.codec.specs.declared.Answer.the-variants.{Refused}
 use Rattle.digits.proofs.Joins.{from-start}
-use Rattle.identities.specs.Families.{about, mostFilter}
+use Rattle.identities.specs.Families.{mostFilter}
 use Rattle.identities.specs.Numbers.{tagText, chosen}
 use Rattle.identities.proofs.IdentityReads.{most-7}
-use Rattle.identify.specs.Words.{isBody, holder, numberOr}
+use Rattle.identify.specs.Words.{isBody, holder}
 use Rattle.identify.proofs.TagLines.{short-body}
 use Rattle.identify.proofs.Holders.{nobody, somebody, wrong-is, unheld-is, by-is}
 use Rattle.identify.proofs.Answered.{not-formed, over, unheld, held}
@@ -24,7 +24,7 @@ wrong : tie.Need-returns-3
 wrong c =
     let j = c .before .before in
     let a = j .before .before .before .args in
-    not-formed (a .family) (a .filter) (a .body .now) (a .out .now) (wrong-is (about (a .family) .total) (isBody (a .family) (a .body .now)) (holder (a .family) (a .body .now)) (sym (c .enum-told .given .1) ∙ j .judge .ensures))
+    not-formed (a .family) (a .filter) (a .body .now) (a .out .now) (wrong-is (isBody (a .family) (a .body .now)) (holder (a .family) (a .body .now)) (sym (c .enum-told .given .1) ∙ j .judge .ensures))
 
 -- held by none: the form is right, and nothing is chosen
 none-held : (c : tie.After-enum-told2) → let a = c .before .before .before .before .before .args in
@@ -32,14 +32,14 @@ none-held : (c : tie.After-enum-told2) → let a = c .before .before .before .be
 none-held c =
     let j = c .before .before in
     let a = j .before .before .before .args in
-    unheld-is (about (a .family) .total) (isBody (a .family) (a .body .now)) (holder (a .family) (a .body .now)) (sym (c .enum-told2 .given .1) ∙ j .judge .ensures)
+    unheld-is (isBody (a .family) (a .body .now)) (holder (a .family) (a .body .now)) (sym (c .enum-told2 .given .1) ∙ j .judge .ensures)
 
 unheld-24 : tie.Need-returns
 unheld-24 c =
     let m = c .before in
     let k = m .before in
     let a = k .before .before .before .before .before .args in
-    rw (none-held k .0) at (over (a .family) (a .filter) (a .body .now) (a .out .now) (rw (← m .most-filter .ensures) (c .if1 .taken)))
+    over (a .family) (a .filter) (a .body .now) (a .out .now) (none-held k .0) (rw (← m .most-filter .ensures) (c .if1 .taken))
 
 unheld-25 : tie.Need-returns-4
 unheld-25 c =
@@ -47,7 +47,7 @@ unheld-25 c =
     let k = m .before in
     let a = k .before .before .before .before .before .args in
     let l : a .filter ≤ mostFilter (a .family) = rw (← m .most-filter .ensures) (c .if1 .left) in
-    rw (none-held k .0) at (unheld (a .family) (a .filter) (a .body .now) (a .out .now) l (nobody (a .filter) (a .family) (a .body .now) l (none-held k .1)))
+    unheld (a .family) (a .filter) (a .body .now) (a .out .now) (none-held k .0) l (nobody (a .filter) (a .family) (a .body .now) l (none-held k .1))
 
 -- held by a scheme
 is-held : (c : tie.After-known-told) → let a = c .before .before .before .before .before .before .args in
@@ -55,14 +55,14 @@ is-held : (c : tie.After-known-told) → let a = c .before .before .before .befo
 is-held c =
     let j = c .before .before .before in
     let a = j .before .before .before .args in
-    by-is (about (a .family) .total) (isBody (a .family) (a .body .now)) (holder (a .family) (a .body .now)) (c .before .s .given .0 .0) (sym (c .before .s .given .1) ∙ j .judge .ensures)
+    by-is (isBody (a .family) (a .body .now)) (holder (a .family) (a .body .now)) (c .before .s .given .0 .0) (sym (c .before .s .given .1) ∙ j .judge .ensures)
 
 held-24 : tie.Need-returns-2
 held-24 c =
     let m = c .before in
     let k = m .before in
     let a = k .before .before .before .before .before .before .args in
-    rw (is-held k .0) at (over (a .family) (a .filter) (a .body .now) (a .out .now) (rw (← m .most-filter2 .ensures) (c .if2 .taken)))
+    over (a .family) (a .filter) (a .body .now) (a .out .now) (is-held k .0) (rw (← m .most-filter2 .ensures) (c .if2 .taken))
 
 -- the filter keeps its limit, and so there is a tag
 least : (c : tie.Else2) → let a = c .before .before .before .before .before .before .before .before .args in a .filter ≤ mostFilter (a .family)
@@ -107,11 +107,7 @@ of-family-spec =
     (λ c κs. search needs)
     held-24
     room
-    (λ c. search needs)
-    (λ c κs. search needs)
     wrong
     unheld-25
     (λ c. search needs)
-    given
-    (λ c. search needs)
-    (λ c. c .before .before .uncounted .ensures))
+    given)

@@ -1,12 +1,12 @@
--- Two parts or three, with a total; without one there is no verdict.
+-- Two parts or three, with a total or without.
 use mathlib.Core.Path.{_≡_, sym, ap, _∙_}
 use mathlib.Core.List.{_∷_, []}
 use mathlib.Core.Option.{none, some}
+use Rattle.identify.specs.Words.{totalOf, componentsOf, totalIn}
 use Rattle.identify.proofs.Judgements.{padded-first}
-use Rattle.identify.specs.Words.{isBody, holder, judgedAs, totalOf, componentsOf, totalIn}
 use borrow.Author.Needs.{needs}
-use Rattle.identify.proofs.counted.judge.Statement.{statement}
-use Rattle.identify.proofs.counted.judge.Tie as tie
+use Rattle.identify.proofs.judge.judge.Statement.{statement}
+use Rattle.identify.proofs.judge.judge.Tie as tie
 
 bare : tie.Need-two-requires
 bare c κs =
@@ -24,21 +24,18 @@ serialised c κs =
     let shape = h .about .ensures in
     let e = k .b .given .1 in
     let q = sym (shape .components) ∙ ap componentsOf e in
-    record { components = q ∙ ap (λ y. y ∷ k .b .given .0 .1 .0 ∷ k .b .given .0 .1 .1 .0 ∷ []) (padded-first (h .before .before .args .f) _ _ _ _ q (sym (shape .total) ∙ ap totalIn e ∙ ap totalOf t)); total = sym (shape .total) ∙ ap totalIn e ∙ ap totalOf t }
+    let n = sym (shape .total) ∙ ap totalIn e ∙ ap totalOf t in
+    record { components = q ∙ ap (λ y. y ∷ k .b .given .0 .1 .0 ∷ k .b .given .0 .1 .1 .0 ∷ []) (padded-first (h .before .before .args .f) _ _ _ _ q n); total = n }
 
-free-two : tie.Need-returns-2
-free-two c =
+no-total : tie.Need-uncounted-requires
+no-total c κs =
     let k = c .before .before .before in
-    let h = k .before .before in
-    let a = h .before .before .args in
-    sym (ap (λ t. judgedAs t (isBody (a .f) (a .x .now)) (holder (a .f) (a .x .now))) (sym (h .about .ensures .total) ∙ ap totalIn (k .a .given .1) ∙ ap totalOf (c .enum-told .given .1)))
+    sym (k .before .before .about .ensures .total) ∙ ap totalIn (k .a .given .1) ∙ ap totalOf (c .enum-told .given .1)
 
-free-three : tie.Need-returns-4
-free-three c =
+no-total-2 : tie.Need-uncounted-requires-2
+no-total-2 c κs =
     let k = c .before .before .before in
-    let h = k .before .before in
-    let a = h .before .before .args in
-    sym (ap (λ t. judgedAs t (isBody (a .f) (a .x .now)) (holder (a .f) (a .x .now))) (sym (h .about .ensures .total) ∙ ap totalIn (k .b .given .1) ∙ ap totalOf (c .enum-told2 .given .1)))
+    sym (k .before .before .about .ensures .total) ∙ ap totalIn (k .b .given .1) ∙ ap totalOf (c .enum-told2 .given .1)
 
 pub judge-spec : {M : Type 1} → statement M
 judge-spec =
@@ -49,11 +46,13 @@ judge-spec =
     (λ c. search needs)
     bare
     (λ c. search needs)
+    no-total
     (λ c. search needs)
     (λ c. search needs)
     serialised
     (λ c. search needs)
+    no-total-2
     (λ c. c .two .ensures)
-    free-two
+    (λ c. c .uncounted .ensures)
     (λ c. c .three .ensures)
-    free-three)
+    (λ c. c .uncounted2 .ensures))
