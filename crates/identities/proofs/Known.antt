@@ -1,5 +1,5 @@
 -- Known identities, run through the two calls: an example of 001's annex E.3 for each scheme, gdti-113 by hand, each reading of section 6.3
--- that docs/DECISIONS.md lists, and the numbers.
+-- that docs/DECISIONS.md lists, the numbers, and the form of each family.
 use Prim.Native.Nat.{ℕ}
 use Prim.Native.String.{String}
 use mathlib.Core.Path.{_≡_, refl}
@@ -137,6 +137,81 @@ numbers =
     refuses 0 "urn:epc:id:gid:1.2.03" 23 ∷
     refuses 0 "urn:epc:id:gid:268435456.2.3" 25 ∷ []
 
-pub known-identities : (map gives annex ≡ map expected annex) × (map gives choices ≡ map expected choices) × (map gives numbers ≡ map expected numbers)
-unfolding annex choices numbers gives expected written blank tagToIdentity identityToTag tagOfIdentity identityIn heldBy identityText identityOf textOf tagOfText valueIn value schemes rows tableA1 escaped families partCharacters start tagStart
-known-identities = (refl, refl, refl)
+-- each family's components and total: a digit too few; no prefix, a letter in it, and nearly all digits in it; the same of the reference
+unfoldable pub forms : List Known
+forms =
+    refuses 0 "urn:epc:id:sgtin:.0000000000000.1" 23 ∷
+    refuses 0 "urn:epc:id:sgtin:A614141.812345.1" 23 ∷
+    refuses 0 "urn:epc:id:sgtin:0614141.81234A.1" 23 ∷
+    refuses 0 "urn:epc:id:sgtin:0.000000000000.1" 25 ∷
+    refuses 0 "urn:epc:id:sscc:0614141.012345678" 23 ∷
+    refuses 0 "urn:epc:id:sscc:.00000000000000000" 23 ∷
+    refuses 0 "urn:epc:id:sscc:A614141.0123456789" 23 ∷
+    refuses 0 "urn:epc:id:sscc:0000000000000000.0" 25 ∷
+    refuses 0 "urn:epc:id:sscc:00000000000000000." 23 ∷
+    refuses 0 "urn:epc:id:sscc:0614141.012345678A" 23 ∷
+    refuses 0 "urn:epc:id:sscc:0.0000000000000000" 25 ∷
+    refuses 0 "urn:epc:id:gsrn:0614141.012345678" 23 ∷
+    refuses 0 "urn:epc:id:gsrn:.00000000000000000" 23 ∷
+    refuses 0 "urn:epc:id:gsrn:A614141.0123456789" 23 ∷
+    refuses 0 "urn:epc:id:gsrn:0000000000000000.0" 25 ∷
+    refuses 0 "urn:epc:id:gsrn:00000000000000000." 23 ∷
+    refuses 0 "urn:epc:id:gsrn:0614141.012345678A" 23 ∷
+    refuses 0 "urn:epc:id:gsrn:0.0000000000000000" 25 ∷
+    refuses 0 "urn:epc:id:gsrnp:0614141.012345678" 23 ∷
+    refuses 0 "urn:epc:id:gsrnp:.00000000000000000" 23 ∷
+    refuses 0 "urn:epc:id:gsrnp:A614141.0123456789" 23 ∷
+    refuses 0 "urn:epc:id:gsrnp:0000000000000000.0" 25 ∷
+    refuses 0 "urn:epc:id:gsrnp:00000000000000000." 23 ∷
+    refuses 0 "urn:epc:id:gsrnp:0614141.012345678A" 23 ∷
+    refuses 0 "urn:epc:id:gsrnp:0.0000000000000000" 25 ∷
+    refuses 0 "urn:epc:id:sgln:0614141.0123.1" 23 ∷
+    refuses 0 "urn:epc:id:sgln:.000000000000.1" 23 ∷
+    refuses 0 "urn:epc:id:sgln:A614141.01234.1" 23 ∷
+    gets 0 "urn:epc:id:sgln:000000000000..1" "urn:epc:tag:sgln-96:0.000000000000..1" ∷
+    refuses 0 "urn:epc:id:sgln:0614141.0123A.1" 23 ∷
+    refuses 0 "urn:epc:id:sgln:0.00000000000.1" 25 ∷
+    refuses 0 "urn:epc:id:grai:0614141.0123.1" 23 ∷
+    refuses 0 "urn:epc:id:grai:.000000000000.1" 23 ∷
+    refuses 0 "urn:epc:id:grai:A614141.01234.1" 23 ∷
+    gets 0 "urn:epc:id:grai:000000000000..1" "urn:epc:tag:grai-96:0.000000000000..1" ∷
+    refuses 0 "urn:epc:id:grai:0614141.0123A.1" 23 ∷
+    refuses 0 "urn:epc:id:grai:0.00000000000.1" 25 ∷
+    refuses 0 "urn:epc:id:gdti:0614141.0123.1" 23 ∷
+    refuses 0 "urn:epc:id:gdti:.000000000000.1" 23 ∷
+    refuses 0 "urn:epc:id:gdti:A614141.01234.1" 23 ∷
+    gets 0 "urn:epc:id:gdti:000000000000..1" "urn:epc:tag:gdti-96:0.000000000000..1" ∷
+    refuses 0 "urn:epc:id:gdti:0614141.0123A.1" 23 ∷
+    refuses 0 "urn:epc:id:gdti:0.00000000000.1" 25 ∷
+    refuses 0 "urn:epc:id:sgcn:0614141.0123.1" 23 ∷
+    refuses 0 "urn:epc:id:sgcn:.000000000000.1" 23 ∷
+    refuses 0 "urn:epc:id:sgcn:A614141.01234.1" 23 ∷
+    gets 0 "urn:epc:id:sgcn:000000000000..1" "urn:epc:tag:sgcn-96:0.000000000000..1" ∷
+    refuses 0 "urn:epc:id:sgcn:0614141.0123A.1" 23 ∷
+    refuses 0 "urn:epc:id:sgcn:0.00000000000.1" 25 ∷
+    refuses 0 "urn:epc:id:sgcn:0614141.01234." 23 ∷
+    refuses 0 "urn:epc:id:giai:.1" 23 ∷
+    refuses 0 "urn:epc:id:giai:A614141.1" 23 ∷
+    refuses 0 "urn:epc:id:giai:00000000000000.1" 25 ∷
+    refuses 0 "urn:epc:id:gid:01.2.3" 23 ∷
+    refuses 0 "urn:epc:id:gid:.2.3" 23 ∷
+    refuses 0 "urn:epc:id:gid:A.2.3" 23 ∷
+    refuses 0 "urn:epc:id:gid:10000000000000.2.3" 25 ∷
+    refuses 0 "urn:epc:id:gid:1.02.3" 23 ∷
+    refuses 0 "urn:epc:id:gid:1..3" 23 ∷
+    refuses 0 "urn:epc:id:gid:1.A.3" 23 ∷
+    refuses 0 "urn:epc:id:gid:1.20000000000000.3" 25 ∷
+    refuses 0 "urn:epc:id:cpi:.7.1" 23 ∷
+    refuses 0 "urn:epc:id:cpi:A614141.7.1" 23 ∷
+    refuses 0 "urn:epc:id:cpi:00000000000000.7.1" 25 ∷
+    refuses 0 "urn:epc:id:cpi:0614141.0123456789ABCDEFGHIJKLMNOPQRSTUVWXYZ-.1" 25 ∷
+    refuses 0 "urn:epc:id:cpi:0614141.,.1" 23 ∷
+    refuses 0 "urn:epc:id:cpi:0614141./.1" 23 ∷
+    refuses 0 "urn:epc:id:cpi:0614141.:.1" 23 ∷
+    refuses 0 "urn:epc:id:cpi:0614141.@.1" 23 ∷
+    refuses 0 "urn:epc:id:cpi:0614141.[.1" 23 ∷
+    refuses 0 "urn:epc:id:cpi:0614141._.1" 23 ∷ []
+
+pub known-identities : (map gives annex ≡ map expected annex) × (map gives choices ≡ map expected choices) × (map gives numbers ≡ map expected numbers) × (map gives forms ≡ map expected forms)
+unfolding annex choices numbers forms gives expected written blank tagToIdentity identityToTag tagOfIdentity identityIn heldBy identityText identityOf textOf tagOfText valueIn value schemes rows tableA1 escaped families partCharacters start tagStart
+known-identities = (refl, refl, refl, refl)
