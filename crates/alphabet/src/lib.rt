@@ -78,13 +78,11 @@ fn character_at(text: &[u8], at: usize) -> Found
     character(text[at], text[at + 1])
 }
 
-// The bytes that stand for themselves, a bit for each: those below 64, and those from 64 to 127. The readers of a text ask these: to make the
-// table takes longer than to read most strings.
+// The bytes that stand for themselves, a bit for each: those below 64, and those from 64 to 127.
 const PLAIN_BELOW_64: u64 = 0x2FFF7F8200000000;
 
 const PLAIN_FROM_64: u64 = 0x07FFFFFE87FFFFFE;
 
-// The word that has a byte's bit.
 fn word_of(c: u8) -> u64
     ensures { λ r. ⌜ r ≡ wordOf c ⌝ }
 {
@@ -94,7 +92,8 @@ fn word_of(c: u8) -> u64
     PLAIN_FROM_64
 }
 
-// Whether a byte stands for itself. Both words are at hand, so that no branch depends on the character.
+// Whether a byte stands for itself, without the table: for a reader that keeps no characters, making that takes longer than most strings. Both
+// words are at hand, so that no branch depends on the character.
 fn stands(c: u8) -> bool
     ensures { λ r. ⌜ r ≡ plain c ⌝ }
 {
@@ -161,8 +160,8 @@ fn keep(kept: &mut [u8], n: usize, c: u8)
 // "A plain character and an escape may follow each other freely" (document 01): so two readers call each other.
 // This one reads characters that stand for themselves, and goes on with `escape` at a percent sign. Both return the number of
 // characters, counting the n before, or 0 where the form is wrong; and both store the characters from place n on.
-fn plain_run(text: &[u8], at: usize, n: usize, kept: &mut [u8]) -> usize
-    requires { ⌜ (at ≤ length (now text)) × (n ≤ at) ⌝ }
+fn plain_run(text: &[u8], at: usize, n: usize, kept: &mut [u8], classes: &Classes) -> usize
+    requires { ⌜ (at ≤ length (now text)) × (n ≤ at) × ClassTable (now classes) ⌝ }
     ensures { λ r. ⌜ r ≡ counted n (charactersIn (drop at (now (text .entry)))) ⌝ }
     ensures { λ _. ⌜ Kept (charactersIn (drop at (now (text .entry)))) n (now (kept .entry)) (now (kept .exit)) ⌝ }
 {
@@ -170,12 +169,12 @@ fn plain_run(text: &[u8], at: usize, n: usize, kept: &mut [u8]) -> usize
     let mut m = n;
     while i < text.len() {
         let b = text[i];
-        if stands(b) {
+        if class(b, classes) == table::PLAIN {
             keep(kept, m, b);
             m += 1;
             i += 1;
         } else if b == b'%' {
-            return escape(text, i + 1, m, kept);
+            return escape(text, i + 1, m, kept, classes);
         } else {
             return 0;
         }
@@ -184,8 +183,8 @@ fn plain_run(text: &[u8], at: usize, n: usize, kept: &mut [u8]) -> usize
 }
 
 // Reads an escape whose percent sign stands before `at`, and goes on with `plain_run`.
-fn escape(text: &[u8], at: usize, n: usize, kept: &mut [u8]) -> usize
-    requires { ⌜ (at ≤ length (now text)) × (n < at) ⌝ }
+fn escape(text: &[u8], at: usize, n: usize, kept: &mut [u8], classes: &Classes) -> usize
+    requires { ⌜ (at ≤ length (now text)) × (n < at) × ClassTable (now classes) ⌝ }
     ensures { λ r. ⌜ r ≡ counted n (charactersIn (percent ∷ drop at (now (text .entry)))) ⌝ }
     ensures { λ _. ⌜ Kept (charactersIn (percent ∷ drop at (now (text .entry)))) n (now (kept .entry)) (now (kept .exit)) ⌝ }
 {
@@ -194,7 +193,7 @@ fn escape(text: &[u8], at: usize, n: usize, kept: &mut [u8]) -> usize
     };
     if n < kept.len() {
         kept[n] = c;
-        return plain_run(text, at + 2, n + 1, kept);
+        return plain_run(text, at + 2, n + 1, kept, classes);
     }
     rest(text, at + 2, n + 1)
 }
@@ -205,7 +204,8 @@ pub fn read(text: &[u8], at: usize) -> Spelled
     ensures { λ r. ⌜ r ≡ spelledOf (charactersIn (drop at (now (text .entry)))) ⌝ }
 {
     let mut characters = [0u8; MOST_CHARACTERS];
-    let count = plain_run(text, at, 0, &mut characters);
+    let classes = class_table();
+    let count = plain_run(text, at, 0, &mut characters, &classes);
     if count == 0 {
         return Spelled {
             count,

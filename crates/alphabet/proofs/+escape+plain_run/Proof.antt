@@ -1,6 +1,6 @@
 -- The two readers that call each other. Each one's measure is what is left of the text.
 -- The loop's invariant: what is counted and kept from i on, with m characters before, is what is counted and kept from `at` on.
-use mathlib.Core.Path.{_≡_, refl, sym, _∙_}
+use mathlib.Core.Path.{_≡_, refl, _∙_}
 use mathlib.Core.List.{List, _∷_}
 use mathlib.Core.Option.{some}
 use native.Mathlib.Omega.{arith}
@@ -12,6 +12,7 @@ use lib.ListN.{length, drop, length-set}
 use Rattle.rules.specs.Bytes.{percent}
 use Rattle.rules.specs.TextNumbers.{put, charactersIn}
 use Rattle.alphabet.specs.Readers.{counted, Kept, escapeIn}
+use Rattle.alphabet.proofs.Classes.{plain-class, other-class}
 use Rattle.alphabet.proofs.Steps.{at-plain, at-percent, at-other, at-end, escape-some, escape-none, at-escape, escape-within, no-escape, count-end, count-more}
 use Rattle.alphabet.proofs.Kept.{keep-more, keep-full}
 use Rattle.alphabet.proofs.escape.Reads as escape
@@ -21,30 +22,30 @@ use Rattle.alphabet.proofs.plain_run.Reads as plain-run
 use Rattle.alphabet.proofs.plain_run.Kinds as plain-run-kinds
 use Rattle.alphabet.proofs.+escape+plain_run.Lts-plain_run as plain-run-lts
 use Rattle.alphabet.proofs.character_at.Reads as character-at-reads
-use Rattle.alphabet.proofs.stands.Reads as stands-reads
+use Rattle.alphabet.proofs.class.Reads as class-reads
 use Rattle.alphabet.proofs.keep.Reads as keep-reads
 use Rattle.alphabet.proofs.rest.Reads as rest-reads
 use Rattle.alphabet.proofs.+escape+plain_run.{statement}
 use Rattle.alphabet.proofs.+escape+plain_run.Tie.{close}
 
-abbrev μ-escape : Measures 2 escape-kinds.ps ℕ
+abbrev μ-escape : Measures 3 escape-kinds.ps ℕ
 μ-escape κs a = length (a .0 .now) - a .1 .0
 
-abbrev μ-plain-run : Measures 2 plain-run-kinds.ps ℕ
+abbrev μ-plain-run : Measures 3 plain-run-kinds.ps ℕ
 μ-plain-run κs a = length (a .0 .now) - a .1 .0
 
-abbrev escape-at : ℕ → In 2 escape-kinds.ps
-escape-at t = and 2 escape-kinds.ps (is 2 escape-kinds.ps μ-escape t) escape.Pre
+abbrev escape-at : ℕ → In 3 escape-kinds.ps
+escape-at t = and 3 escape-kinds.ps (is 3 escape-kinds.ps μ-escape t) escape.Pre
 
-abbrev escape-below : ℕ → In 2 escape-kinds.ps
-escape-below t = and 2 escape-kinds.ps (falls 2 escape-kinds.ps _<_ μ-escape t) escape.Pre
+abbrev escape-below : ℕ → In 3 escape-kinds.ps
+escape-below t = and 3 escape-kinds.ps (falls 3 escape-kinds.ps _<_ μ-escape t) escape.Pre
 
-abbrev plain-run-at : ℕ → In 2 plain-run-kinds.ps
-plain-run-at t = and 2 plain-run-kinds.ps (is 2 plain-run-kinds.ps μ-plain-run t) plain-run.Pre
+abbrev plain-run-at : ℕ → In 3 plain-run-kinds.ps
+plain-run-at t = and 3 plain-run-kinds.ps (is 3 plain-run-kinds.ps μ-plain-run t) plain-run.Pre
 
-abbrev plain-run-below : ℕ → In 2 plain-run-kinds.ps
+abbrev plain-run-below : ℕ → In 3 plain-run-kinds.ps
 plain-run-below t =
-    and 2 plain-run-kinds.ps (falls 2 plain-run-kinds.ps _<_ μ-plain-run t) plain-run.Pre
+    and 3 plain-run-kinds.ps (falls 3 plain-run-kinds.ps _<_ μ-plain-run t) plain-run.Pre
 
 abbrev escape-calls : ℕ → escape-lts.Claims
 escape-calls t = (
@@ -58,8 +59,8 @@ escape-calls t = (
 
 abbrev plain-run-calls : ℕ → plain-run-lts.Claims
 plain-run-calls t = (
-  stands-reads.Asked,
-  stands-reads.Learnt,
+  class-reads.Asked,
+  class-reads.Learnt,
   keep-reads.Asked,
   keep-reads.Learnt,
   escape-below t,
@@ -90,7 +91,7 @@ module _ (t : ℕ) (c : escape-lts.After-c (escape-calls t) (escape-at t) escape
 escape-plain-run-requires : (t : ℕ) → escape-lts.Need-plain-run-requires (escape-calls t) (escape-at t) escape.Post
 escape-plain-run-requires t c κs =
     let w = within t (c .before .before .before) in
-    (omega (arith, w), (w, search needs))
+    (omega (arith, w), (w, search needs, search needs))
 
 escape-returns-2 : (t : ℕ) → escape-lts.Need-returns-2 (escape-calls t) (escape-at t) escape.Post
 escape-returns-2 t c =
@@ -113,13 +114,13 @@ escape-returns-3 t c =
     (c .rest .ensures ∙ count-more (a .n) _ o p (goes-on t found), keep-full (a .n) (a .kept .now) p (c .before .if1 .left))
 
 abbrev plain-run-Inv-loop : plain-run-lts.InvT-loop
-plain-run-Inv-loop text at n kept₀ i₀ m₀ kept i m =
+plain-run-Inv-loop text at n kept₀ classes i₀ m₀ kept i m =
     (at ≤ i) × (i ≤ length text) × (m ≤ i) × (length kept ≡ length kept₀)
     × (counted m (charactersIn (drop i text)) ≡ counted n (charactersIn (drop at text)))
     × ((z : List ℕ) → Kept (charactersIn (drop i text)) m kept z → Kept (charactersIn (drop at text)) n kept₀ z)
 
 abbrev plain-run-μ-loop : plain-run-lts.MeasureT-loop
-plain-run-μ-loop text at n kept₀ i₀ m₀ kept i m = length text - i
+plain-run-μ-loop text at n kept₀ classes i₀ m₀ kept i m = length text - i
 
 plain-run-loop-again : (t : ℕ) → plain-run-lts.Need-loop-again (plain-run-calls t) (plain-run-at t) plain-run.Post plain-run-Inv-loop plain-run-μ-loop
 plain-run-loop-again t c =
@@ -129,7 +130,7 @@ plain-run-loop-again t c =
     let v = turn .before .loop in
     let x = turn .before .before .before .before .args .text .now in
     let o = charactersIn (drop (v .i + 1) x) in
-    let e = at-plain x (v .i) (turn .loop-test .taken) (sym (test .before .stands .ensures) ∙ test .if1 .taken) in (
+    let e = at-plain x (v .i) (turn .loop-test .taken) (plain-class _ _ (test .before .class .ensures) (test .if1 .taken)) in (
       search needs,
       search needs,
       search needs,
@@ -155,7 +156,7 @@ plain-run-returns-2 t c =
     let turn = classed .before .before in
     let v = turn .before .loop in
     let x = turn .before .before .before .before .args .text .now in
-    let e = at-other x (v .i) (turn .loop-test .taken) (sym (classed .stands .ensures) ∙ c .before .if1 .left) (c .if2 .left) in
+    let e = at-other x (v .i) (turn .loop-test .taken) (other-class _ _ (classed .class .ensures) (c .before .if1 .left)) (c .if2 .left) in
     (rw e at (v .inv .4), v .inv .5 _ (rw e tt))
 
 plain-run-returns-3 : (t : ℕ) → plain-run-lts.Need-returns-3 (plain-run-calls t) (plain-run-at t) plain-run.Post plain-run-Inv-loop plain-run-μ-loop
@@ -196,7 +197,7 @@ pub +escape+plain-run-spec : {M : Type 1} → statement M
     (λ c. search needs)
     (plain-run-loop-again t)
     (λ c. search needs)
-    (λ c κs. (omega arith, (search needs, search needs)))
+    (λ c κs. (omega arith, (search needs, search needs, search needs)))
     (λ c. search needs)
     (plain-run-returns t)
     (λ c. search needs)
