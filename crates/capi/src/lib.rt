@@ -1,5 +1,5 @@
-// The public calls for other languages (include/tagcodec.h): the codec's four, and the two of pure identity. A lent slice is a pointer and a length, an answer four numbers. No call
-// has a condition; what C itself owes of a pointer stands in the header.
+// The public calls for other languages (include/tagcodec.h): the codec's four, and the two of pure identity. A lent slice is a pointer and a
+// length, an answer four numbers. No call has a condition; what C itself owes of a pointer stands in the header.
 ghost use mathlib.Core.Path.{_≡_};
 ghost use Rattle.rules.specs.Calls.{textToBank, bankToText, rawLine};
 ghost use Rattle.identities.specs.Calls.{tagToIdentity, identityToTag};

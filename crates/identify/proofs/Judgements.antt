@@ -1,11 +1,11 @@
 -- The verdict on a counted family: its schemes share a table whose rows have the family's total, and the last part decides between them.
-use Prim.Native.Nat.{ℕ, zero, suc, _+_, _-_, _/_, _≤_}
+use Prim.Native.Nat.{ℕ, suc, _+_, _-_, _/_, _≤_}
 use mathlib.Core.Path.{_≡_, refl, sym, ap, _∙_}
 use mathlib.Core.Bool.{Bool, true, false, _&&_, cond}
 use mathlib.Core.List.{List, [], _∷_}
 use mathlib.Core.Option.{Option, none, some}
 use native.Mathlib.Omega.{arith}
-use lib.Dec.{T, leb, ltb, eqb, lit≤}
+use lib.Dec.{T, leb, ltb, lit≤}
 use lib.ListN.{length}
 use borrow.Author.Tests.{ne-eqb, eq-eqb, lt-ltb}
 use Rattle.rules.specs.declared.Scheme.{Scheme}
@@ -17,7 +17,7 @@ use Rattle.rules.specs.declared.Last.the-variants.{Integer, String, Numeric}
 use Rattle.rules.specs.declared.Body.the-variants.{Then, Zeros}
 use Rattle.rules.specs.declared.Parts.the-variants.{F}
 use Rattle.rules.specs.Answers.{kept}
-use Rattle.rules.specs.Bytes.{behind, dot, upto}
+use Rattle.rules.specs.Bytes.{behind, dot}
 use Rattle.rules.specs.Schemes.{exact, integer, string, numeric, lastForm}
 use Rattle.rules.specs.Schemes.{about as aboutScheme}
 use Rattle.rules.specs.Grammar.{shaped, sized}
@@ -35,12 +35,10 @@ use Rattle.identities.specs.Families.{about, short, long}
 use Rattle.identities.specs.Numbers.{holds, some-of, is, or-else, and-then}
 use Rattle.identities.proofs.Components.{component-of}
 use Rattle.identities.proofs.TagTexts.{Sums, sums-a, sums-b, sums-c, sums-d, integer-characters}
-use Rattle.identify.specs.declared.form.Before.the-variants.{Wrong}
 use Rattle.identify.specs.declared.form.Total.the-variants.{Of}
-use Rattle.identify.specs.declared.counted.Verdict.{Verdict}
 use Rattle.identify.specs.declared.counted.Verdict.the-variants.{WrongText, Unheld, By}
-use Rattle.identify.specs.Words.{splitBy, isBody, isDivided, held, heldIn, holder, judgedAs, judged, fitting, inRow, byRow, lastBits, byCount, bySerial, byLast, Serialised, Bare}
-use Rattle.identify.proofs.Divided.{Cut, first-wrong, second-wrong, third-wrong, triple-right, last-wrong, pair-right, body-divided}
+use Rattle.identify.specs.Words.{isBody, isDivided, held, heldIn, holder, judgedAs, judged, fitting, inRow, byRow, lastBits, byCount, byLast, Serialised, Bare}
+use Rattle.identify.proofs.Divided.{Cut, third-wrong, triple-right, pair-right, body-divided}
 use Rattle.identify.proofs.Pieces.{held-body, with-last-fits, alone-fits}
 use Rattle.identify.proofs.Verdicts.{Digital, never-empty, maybe-empty, digits-of-cut, digits-of-text}
 

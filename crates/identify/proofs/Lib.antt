@@ -8,5 +8,6 @@ pub mod Verdicts
 pub mod Judgements
 pub mod Holders
 pub mod TagLines
+pub mod DirectTags
 pub mod Answered
 pub mod OneAnswer

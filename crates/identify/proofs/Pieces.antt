@@ -17,14 +17,14 @@ use Rattle.rules.specs.declared.Body.the-variants.{Then, Zeros}
 use Rattle.rules.specs.declared.Parts.the-variants.{F, Integers}
 use Rattle.rules.specs.Answers.{Answer, refused, taken, _>>=_, _>>_, demand, given}
 use Rattle.rules.specs.Bytes.{among, upto, behind, dot}
-use Rattle.rules.specs.Schemes.{Form, company, exact, cell, lastForm, rowOf, about}
+use Rattle.rules.specs.Schemes.{Form, exact, cell, lastForm, rowOf, about}
 use Rattle.rules.specs.ControlFields.{noFields, controlText}
-use Rattle.rules.specs.Grammar.{Role, prefix, Layout, part, end, bodyLayout, laid, layout, sized, start, label}
+use Rattle.rules.specs.Grammar.{Role, Layout, part, end, bodyLayout, laid, layout, sized, start, label}
 use Rattle.rules.specs.TextNumbers.{numberAt, digitsIn, formed, partIn, lastIn, partsIn, tagOfText}
 use Rattle.rules.proofs.Tests.{both}
 use Rattle.identities.specs.Numbers.{holds, filterText, tagText, ifTaken, heldBy}
 use Rattle.identities.proofs.TagTexts.{Sums, sum-of}
-use Rattle.identify.specs.Words.{held, fitting, fitsThen, fitsIn, inRow}
+use Rattle.identify.specs.Words.{held, fitting, fitsThen, fitsIn, behindFilter, inRow}
 use Rattle.identities.proofs.Held.{read-named}
 
 abbrev pub isTaken : {X : Type 0} → Answer X → Bool
@@ -72,9 +72,6 @@ parts-taken (part r f k) i t = dots (λ p. parts-taken (k p) (i + length (upto d
     dots ih false = refl
 
 -- A filter of 0 is read away, and the rest of the layout is left.
-abbrev pub behindFilter : Body → Layout
-behindFilter body = part prefix company λ ds. bodyLayout body (length ds)
-
 past-filter : (body : Body) (i : ℕ) (x : List ℕ) → isTaken (partsIn i (laid (F body)) (filterText (F body) 0 ++ x)) ≡ fitsIn (behindFilter body) x
 unfolding value
 past-filter body i x = mapped (partsIn (i + 1 + 1) (behindFilter body) x) ((0 ∷ []) ∷_) ∙ parts-taken (behindFilter body) (i + 1 + 1) x

@@ -1,51 +1,28 @@
 -- The verdict on a counted family, from its prefix, its reference and its last part.
-use Prim.Native.Nat.{ℕ, zero, suc, _+_, _-_, _/_, _≤_, _<_}
+use Prim.Native.Nat.{ℕ, suc, _+_, _-_, _≤_, _<_}
 use mathlib.Core.Path.{_≡_, refl, sym, ap, _∙_}
-use mathlib.Core.Bool.{Bool, true, false, _&&_, _||_, cond}
-use mathlib.Core.List.{List, [], _∷_, _++_}
+use mathlib.Core.Bool.{Bool, true, false, _&&_, cond}
+use mathlib.Core.List.{List, _∷_}
 use mathlib.Core.Option.{Option, none, some, Option·map}
 use native.Mathlib.Omega.{arith}
-use native.Mathlib.Numerals.{add-one}
-use lib.Dec.{T, leb, ltb, eqb}
-use lib.ListN.{length, drop, getD, length-map, drop-of-length-le}
-use borrow.Author.Tests.{eq-eqb, ne-eqb, eqb-true, le-ltb, lt-ltb, le-leb, lt-leb}
-use Rattle.rules.specs.declared.Scheme.{Scheme}
-use Rattle.rules.specs.declared.Scheme.the-variants.{Sgtin198, Sgln195, Grai170, Gdti174}
-use Rattle.rules.specs.declared.Table.{Table}
-use Rattle.rules.specs.declared.Table.the-variants.{A, B, C, D}
-use Rattle.rules.specs.declared.Last.{Last}
-use Rattle.rules.specs.declared.Last.the-variants.{Integer, String, Numeric}
-use Rattle.rules.specs.declared.Body.the-variants.{Then, Zeros}
-use Rattle.rules.specs.declared.Parts.the-variants.{F}
-use Rattle.rules.specs.Answers.{kept}
-use Rattle.rules.specs.Bytes.{all, among, upto, behind, dot, digitsText}
-use Rattle.rules.specs.Schemes.{exact, integer, string, numeric, lastForm}
-use Rattle.rules.specs.Schemes.{about as aboutScheme}
-use Rattle.rules.specs.Grammar.{digit, sized}
-use Rattle.rules.specs.TextNumbers.{isDigit, digitsIn, charactersIn, formed}
-use Rattle.rules.proofs.Tests.{is-true}
-use Rattle.rules.proofs.Answers.{Gives, Decides}
+use lib.Dec.{T, ltb, eqb}
+use lib.ListN.{length, drop, getD, drop-of-length-le}
+use borrow.Author.Tests.{eq-eqb, ne-eqb, eqb-true}
+use Rattle.rules.specs.declared.Table.the-variants.{A}
+use Rattle.rules.specs.Bytes.{all, among, upto, dot, digitsText}
+use Rattle.rules.specs.Grammar.{digit}
+use Rattle.rules.specs.TextNumbers.{isDigit, digitsIn}
+use Rattle.rules.proofs.Answers.{Gives}
 use Rattle.rules.proofs.Decimals.{digits-is}
-use Rattle.rules.proofs.Forms.{Symbols, formed-decides}
 use Rattle.digits.proofs.Runs.{drop-next}
 use Rattle.digits.proofs.Texts.{length-text}
-use Rattle.alphabet.specs.Strings.{countOf}
-use Rattle.identities.specs.declared.Family.{Family}
-use Rattle.identities.specs.declared.Family.the-variants.{Sgtin, Sscc, Sgln, Grai, Giai, Gsrn, Gsrnp, Gdti, Gid, Sgcn, Cpi}
 use Rattle.identities.specs.declared.Component.{Component}
-use Rattle.identities.specs.declared.Component.the-variants.{Padded, PaddedOrEmpty, UpTo, Characters}
-use Rattle.identities.specs.Families.{about, short, long}
-use Rattle.identities.specs.Numbers.{holds, some-of, is, or-else, and-then}
-use Rattle.identities.proofs.Components.{component-of}
-use Rattle.identities.proofs.TagTexts.{Sums, sums-a, sums-b, sums-c, sums-d, integer-characters}
+use Rattle.identities.specs.declared.Component.the-variants.{Padded, PaddedOrEmpty}
+use Rattle.identities.specs.Numbers.{holds, some-of, is}
 use Rattle.identify.specs.declared.form.Before.{Before}
 use Rattle.identify.specs.declared.form.Before.the-variants.{At, Wrong}
-use Rattle.identify.specs.declared.form.Total.the-variants.{Of}
-use Rattle.identify.specs.declared.counted.Verdict.{Verdict}
-use Rattle.identify.specs.declared.counted.Verdict.the-variants.{WrongText, Unheld, By}
-use Rattle.identify.specs.Words.{splitBy, isBody, isDivided, held, heldIn, judgedAs, judged, fitting, inRow, byRow, lastBits, isThere, byCount, bySerial, byLast, Serialised, Bare}
-use Rattle.identify.proofs.Divided.{Cut, cut-is, not-cut, first-wrong, second-wrong, third-wrong, triple-right, last-wrong, pair-right, body-divided}
-use Rattle.identify.proofs.Pieces.{held-body, with-last-fits, alone-fits}
+use Rattle.identify.specs.Words.{splitBy, isThere}
+use Rattle.identify.proofs.Divided.{Cut, cut-is, not-cut}
 
 -- DIGITS BEFORE A DOT, byte by byte
 abbrev pub further : ℕ → Before → Before

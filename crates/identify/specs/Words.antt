@@ -1,25 +1,30 @@
 -- What the code holds of a family and of an identity's text.
 use Prim.Native.Nat.{ℕ, zero, suc, _+_, _/_}
+use Prim.Native.Char.{code}
 use mathlib.Core.Path.{_≡_}
-use mathlib.Core.List.{List, [], _∷_}
+use mathlib.Core.List.{List, [], _∷_, _++_}
 use mathlib.Core.Option.{Option, none, some}
-use mathlib.Core.Bool.{Bool, true, false, _&&_, cond}
+use mathlib.Core.Bool.{Bool, true, false, _&&_, not, cond}
 use lib.Dec.{leb, ltb, eqb}
-use lib.ListN.{length, getD}
+use lib.ListN.{length, drop, getD}
 use Rattle.rules.specs.declared.Scheme.{Scheme}
 use Rattle.rules.specs.declared.ControlFields.{ControlFields}
 use Rattle.rules.specs.declared.Last.{Last}
 use Rattle.rules.specs.declared.Last.the-variants.{Integer, String, Numeric}
+use Rattle.rules.specs.declared.Body.{Body}
 use Rattle.rules.specs.declared.Body.the-variants.{Then, Zeros, E}
 use Rattle.rules.specs.declared.Parts.{Parts}
 use Rattle.rules.specs.declared.Parts.the-variants.{F, Integers}
 use Rattle.rules.specs.Answers.{taken, _>>=_}
 use Rattle.rules.specs.Bytes.{bytes, among, upto, behind, dot}
-use Rattle.rules.specs.Schemes.{Form, integer}
+use Rattle.rules.specs.Schemes.{Form, company, integer}
+use Rattle.rules.specs.Schemes.{schemes}
 use Rattle.rules.specs.Schemes.{about as aboutScheme}
 use Rattle.rules.specs.ControlFields.{controlText}
-use Rattle.rules.specs.Grammar.{Layout, part, end, sized, textOf}
-use Rattle.rules.specs.Grammar.{label as schemeLabel}
+use Rattle.rules.specs.Grammar.{prefix, Layout, part, end, bodyLayout, sized, textOf}
+use Rattle.rules.specs.Grammar.{start as tagStart, label as schemeLabel}
+use Rattle.rules.specs.TextNumbers.{Named as NamedTag}
+use Rattle.rules.specs.TextNumbers.{named as namedTag}
 use Rattle.rules.specs.TextNumbers.{after, charactersIn, formed}
 use Rattle.alphabet.specs.Strings.{countOf}
 use Rattle.rules.specs.Calls.{Call, call}
@@ -28,7 +33,7 @@ use Rattle.identities.specs.declared.Family.{Family}
 use Rattle.identities.specs.declared.Family.the-variants.{Sgtin}
 use Rattle.identities.specs.declared.Component.{Component}
 use Rattle.identities.specs.declared.Component.the-variants.{Padded, PaddedOrEmpty, UpTo, Number, Characters, PartReference}
-use Rattle.identities.specs.Families.{about, families, short, long}
+use Rattle.identities.specs.Families.{about, families, familyOf, short, long}
 use Rattle.identities.specs.Grammar.{partCharacters, totals, start, label}
 use Rattle.identities.specs.Numbers.{Named as NamedText}
 use Rattle.identities.specs.Numbers.{holds, is, dividedBy, bodyIn, named, identified, filterText, heldBy, or-else, and-then, tagOf}
@@ -39,6 +44,10 @@ use Rattle.identify.specs.declared.families.Named.the-variants.{Unlisted
 use Rattle.identify.specs.declared.families.Named.the-variants.{Is as Found}
 use Rattle.identify.specs.declared.counted.Verdict.{Verdict}
 use Rattle.identify.specs.declared.counted.Verdict.the-variants.{WrongText, Unheld, By}
+use Rattle.identify.specs.declared.direct.Strung.{Strung}
+use Rattle.identify.specs.declared.direct.Strung.the-variants.{Of as StringOf, Nothing as NoString}
+use Rattle.identify.specs.declared.direct.Way.{Way}
+use Rattle.identify.specs.declared.direct.Way.the-variants.{Direct, ByRecord}
 use Rattle.identify.specs.declared.form.Before.{Before}
 use Rattle.identify.specs.declared.form.Before.the-variants.{At, Wrong}
 use Rattle.identify.specs.declared.form.Total.{Total}
@@ -155,6 +164,10 @@ abbrev pub fitsIn : Layout → List ℕ → Bool
 fitsIn (part r f k) t = among dot t && fitsThen (formed f (upto dot t)) (sized f) (λ p. fitsIn (k p) (behind dot t))
 fitsIn (end r f) t = fitting f t
 
+-- what is laid behind the filter
+abbrev pub behindFilter : Body → Layout
+behindFilter body = part prefix company λ ds. bodyLayout body (length ds)
+
 -- six to twelve digits pick a row
 abbrev pub inRow : ℕ → Bool
 inRow n = leb 6 n && leb n 12
@@ -212,6 +225,61 @@ pub record Bare (f : Family) (a b : Component) (n : ℕ) : Type 0 where
 -- where an identity's parts begin in a tag text
 abbrev pub bodyAt : ControlFields → Scheme → ℕ
 bodyAt c s = 12 + length (controlText c) + length (schemeLabel s) + length (filterText (aboutScheme s .parts) 0)
+
+-- what an identity of the scheme's family begins with
+abbrev pub startOf : Scheme → List ℕ
+startOf s = start ++ label (familyOf s)
+
+-- WITHOUT A RECORD
+
+-- the table and the bits of a last part that is a string
+abbrev pub strungOf : Parts → Strung
+strungOf (F (Then t (Integer b))) = NoString
+strungOf (F (Then t (String b))) = StringOf t b
+strungOf (F (Then t (Numeric b n))) = NoString
+strungOf (F (Zeros t z)) = NoString
+strungOf (F E) = NoString
+strungOf (Integers a b c) = NoString
+
+-- the bytes 17 and 18 are `-1`, as in `urn:epc:tag:sgtin-198:`, or 1 and something else, as in `urn:epc:tag:sgln-195:`
+abbrev pub mayHaveString : List ℕ → Bool
+mayHaveString t =
+    let first = getD t 17 0 in
+    let second = getD t 18 0 in
+    leb 19 (length t) && cond (eqb first (code "-")) (eqb second (code "1")) (eqb first (code "1") && not (eqb second (code "1")))
+
+-- a text begins with a filter and its dot
+abbrev pub isFilter : List ℕ → Bool
+isFilter [] = false
+isFilter (d ∷ []) = false
+isFilter (d ∷ p ∷ t) = eqb p dot && (leb (code "0") d && leb d (code "7"))
+
+-- a tag text without control fields: the scheme, and where the text goes on behind the filter
+abbrev pub filteredIn : Option NamedTag → Way
+filteredIn none = ByRecord
+filteredIn (some c) = cond (isFilter (c .rest)) (Direct (c .scheme) (12 + length (schemeLabel (c .scheme)) + 2)) ByRecord
+
+abbrev pub openedBehind : Option (List ℕ) → Way
+openedBehind none = ByRecord
+openedBehind (some u) = filteredIn (namedTag schemes u)
+
+unfoldable pub openedIn : List ℕ → Way
+openedIn t = openedBehind (after tagStart t)
+
+-- the scheme has a string, and holds what stands there
+abbrev pub spelledBy : Strung → List ℕ → Bool
+spelledBy NoString x = false
+spelledBy (StringOf t b) x = fitsIn (behindFilter (Then t (String b))) x
+
+abbrev pub heldBehind : List ℕ → Way → Way
+heldBehind t ByRecord = ByRecord
+heldBehind t (Direct s at) = cond (spelledBy (strungOf (aboutScheme s .parts)) (drop at t)) (Direct s at) ByRecord
+
+abbrev pub wayIn : List ℕ → Way
+wayIn t = heldBehind t (openedIn t)
+
+abbrev pub directIn : List ℕ → Way
+directIn t = cond (mayHaveString t) (wayIn t) ByRecord
 
 -- THE CALL
 

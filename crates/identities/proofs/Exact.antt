@@ -38,7 +38,7 @@ wrote-taken : (out w : List ℕ) → wrote (call out (taken (0, w))) ≡ w
 wrote-taken out w = wrote-is out w (call out (taken (0, w))) refl refl
 
 module _ (t out : List ℕ) (l : textRoom ≤ length out) where
-  -- the first call writes the identity of the tag, for exactly the texts of tags
+  -- the first call accepts the text of a tag, and writes the identity of that tag
   pub identity-written : (τ : Tag) → TagText t τ → (tagToIdentity t out .number ≡ 0) × (wrote (tagToIdentity t out) ≡ identityText (identityOf τ))
   unfolding tagToIdentity
   identity-written τ r =

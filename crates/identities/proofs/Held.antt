@@ -71,7 +71,7 @@ taken-held f body s τ e =
     let (n, c) = taken-as s (partsIn (length start + length (controlText noFields) + length (label s)) (layout s) (filterText (about s .parts) f ++ body)) τ (sym (read-named s (filterText (about s .parts) f ++ body)) ∙ e) in
     record { fits = r .1 .fits; scheme = n; control = c; text = r .1 .text }
 
-if-taken : {X : Type 0} (a : Answer X) (x : X) → ifTaken a ≡ some x → a ≡ taken x
+pub if-taken : {X : Type 0} (a : Answer X) (x : X) → ifTaken a ≡ some x → a ≡ taken x
 if-taken (refused n p) x e = let z : _≡_ {A = ℕ} 0 1 = cc in absurd (omega arith)
 if-taken (taken y) x e = cc
 

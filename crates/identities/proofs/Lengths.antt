@@ -65,6 +65,6 @@ module _ (τ : Tag) (h : TagFits τ) where
   pub longer : τ .control ≡ noFields → length (textOf τ) ≤ 7 + length (identityText (identityOf τ))
   longer c = omega (arith, identity-is, text-is, labels (τ .scheme) .1, filter-length (about (τ .scheme) .parts) (filterOf τ), ap (λ x. length (controlText x)) c)
 
--- the longest identity text
+-- no identity text has more characters than 112: a bound, from the 116 of a tag text
 pub identity-length : (t : List ℕ) (τ : Tag) → TagText t τ → length (identityText (identityOf τ)) ≤ 112
 identity-length t τ r = omega (arith, shorter τ (r .fits), text-length t τ r, ap length (r .text))

@@ -25,7 +25,7 @@ use Rattle.text.specs.Reading.{readAs, controlled}
 
 -- The name of a scheme at an offset of t, behind control fields, and its parts behind the name.
 module _ (t : List ℕ) (i : ℕ) (long : i ≤ length t) where
-  named-is-at : (s : Scheme) (n : ℕ) → Is s n ≡ namedAt i (drop i t) → (named schemes (drop i t) ≡ some (record { scheme = s; rest = drop n t })) × (n ≡ i + length (label s)) × (n ≤ length t)
+  pub named-is-at : (s : Scheme) (n : ℕ) → Is s n ≡ namedAt i (drop i t) → (named schemes (drop i t) ≡ some (record { scheme = s; rest = drop n t })) × (n ≡ i + length (label s)) × (n ≤ length t)
   unfolding namedAt
   named-is-at s n e = go (named schemes (drop i t)) refl (named-is schemes (drop i t)) e
     where

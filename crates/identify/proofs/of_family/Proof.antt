@@ -1,14 +1,11 @@
 -- The verdict, then the filter, then 25 or the text of the scheme that holds the identity.
-use Prim.Native.Nat.{ℕ, _+_, _≤_, _<_}
-use mathlib.Core.Path.{_≡_, sym, ap, _∙_}
+use Prim.Native.Nat.{_≤_}
+use mathlib.Core.Path.{_≡_, sym, _∙_}
 use mathlib.Core.Bool.{true}
 use mathlib.Core.Option.{none, some}
 use native.Mathlib.Omega.{arith}
-use lib.ListN.{length}
 use borrow.Author.Needs.{needs}
 use Rattle.rules.specs.Grammar.{Tag, TagText}
-use Rattle.codec.specs.Answers.{answered}
-use Rattle.codec.specs.declared.Answer.the-variants.{Refused}
 use Rattle.digits.proofs.Joins.{from-start}
 use Rattle.identities.specs.Families.{mostFilter}
 use Rattle.identities.specs.Numbers.{tagText, chosen}

@@ -1,13 +1,11 @@
 -- A serial of one of two schemes, or what the one scheme has.
-use Prim.Native.Nat.{ℕ, _≤_}
 use mathlib.Core.Path.{_≡_, sym, ap, _∙_}
-use mathlib.Core.Option.{none, some}
+use mathlib.Core.Option.{none}
 use lib.ListN.{drop}
-use Rattle.rules.specs.Schemes.{about as aboutScheme}
 use Rattle.identities.specs.Families.{short, long}
 use Rattle.identities.specs.Numbers.{is}
 use Rattle.parts.proofs.Controls.{from-index}
-use Rattle.identify.specs.Words.{byRow, lastBits, bySerial, byLast}
+use Rattle.identify.specs.Words.{byRow, bySerial, byLast}
 use Rattle.identify.proofs.TagLines.{long-there, no-long}
 use borrow.Author.Needs.{needs}
 use Rattle.identify.proofs.counted.by_last.Statement.{statement}

@@ -5,7 +5,6 @@ use borrow.Author.Tests.{le-leb, lt-leb}
 use Rattle.rules.specs.declared.Scheme.{Scheme}
 use Rattle.identify.specs.declared.counted.Verdict.the-variants.{Unheld, By}
 use Rattle.identify.specs.Words.{byRow}
-use borrow.Author.Needs.{needs}
 use Rattle.identify.proofs.counted.by_row.Statement.{statement}
 use Rattle.identify.proofs.counted.by_row.Tie as tie
 

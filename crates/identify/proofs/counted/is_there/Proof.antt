@@ -1,5 +1,5 @@
 -- A component by its cases.
-use mathlib.Core.Path.{_≡_, sym, ap}
+use mathlib.Core.Path.{sym, ap}
 use Rattle.identify.specs.Words.{isThere}
 use borrow.Author.Needs.{needs}
 use Rattle.identify.proofs.counted.is_there.Statement.{statement}

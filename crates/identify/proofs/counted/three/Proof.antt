@@ -1,9 +1,9 @@
 -- Two runs of digits before dots, their total, and the last part.
-use Prim.Native.Nat.{ℕ, _+_, _-_, _≤_, _<_}
-use mathlib.Core.Path.{_≡_, refl, sym, ap, _∙_}
+use Prim.Native.Nat.{_+_}
+use mathlib.Core.Path.{_≡_, sym, ap, _∙_}
 use mathlib.Core.List.{[], _∷_}
 use native.Mathlib.Omega.{arith}
-use lib.ListN.{length, drop}
+use lib.ListN.{drop}
 use lib.Seq.{drop-drop}
 use borrow.Author.Tests.{not-true, not-false, le-ltb, lt-ltb}
 use Rattle.rules.specs.Bytes.{behind, dot}
@@ -12,7 +12,7 @@ use Rattle.identities.specs.Families.{short, long}
 use Rattle.parts.proofs.Controls.{from-index}
 use Rattle.identify.specs.declared.form.Before.the-variants.{At}
 use Rattle.identify.specs.declared.form.Total.the-variants.{Of}
-use Rattle.identify.specs.Words.{splitBy, isThere, byLast}
+use Rattle.identify.specs.Words.{splitBy, byLast}
 use Rattle.identify.proofs.Divided.{Cut, first-wrong, second-wrong}
 use Rattle.identify.proofs.Verdicts.{never-empty, uncut, missing, cut-there}
 use Rattle.identify.proofs.Judgements.{wrong-form, wrong-total, last-decides, few-bits}

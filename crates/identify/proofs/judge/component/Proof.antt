@@ -1,6 +1,6 @@
 -- The prefix picks the row, and the row the most digits of the reference.
-use Prim.Native.Nat.{ℕ, _≤_, _<_}
-use mathlib.Core.Path.{_≡_, refl, sym, ap, _∙_}
+use Prim.Native.Nat.{_≤_, _<_}
+use mathlib.Core.Path.{refl, sym, ap, _∙_}
 use native.Mathlib.Omega.{arith}
 use lib.Dec.{leb, leb→le, lit≤}
 use lib.ListN.{length, drop}

@@ -1,9 +1,6 @@
 -- Three integers.
-use Prim.Native.Nat.{ℕ, _≤_}
-use mathlib.Core.Path.{_≡_, refl, sym, ap, _∙_}
-use native.Mathlib.Omega.{arith}
+use mathlib.Core.Path.{refl, sym, ap, _∙_}
 use lib.Dec.{lit≤}
-use lib.ListN.{length, drop}
 use Rattle.rules.specs.declared.Scheme.the-variants.{Gid96}
 use Rattle.rules.specs.Schemes.{integer}
 use Rattle.rules.specs.Grammar.{prefix, reference, last, part, end}

@@ -1,7 +1,6 @@
 -- Two parts or three, with a total or without.
-use mathlib.Core.Path.{_≡_, sym, ap, _∙_}
+use mathlib.Core.Path.{sym, ap, _∙_}
 use mathlib.Core.List.{_∷_, []}
-use mathlib.Core.Option.{none, some}
 use Rattle.identify.specs.Words.{totalOf, componentsOf, totalIn}
 use Rattle.identify.proofs.Judgements.{padded-first}
 use borrow.Author.Needs.{needs}

@@ -1,6 +1,5 @@
 -- The part is taken or refused, and then the integer.
-use Prim.Native.Nat.{_≤_}
-use mathlib.Core.Path.{_≡_, sym, ap, _∙_}
+use mathlib.Core.Path.{sym, ap, _∙_}
 use lib.ListN.{drop}
 use Rattle.rules.specs.Schemes.{integer}
 use Rattle.rules.specs.Grammar.{reference, last, end}

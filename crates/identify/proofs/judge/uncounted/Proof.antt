@@ -1,7 +1,5 @@
 -- What the one scheme holds is of the grammar; else the grammar is looked at.
-use mathlib.Core.Path.{_≡_, sym, ap, _∙_}
-use mathlib.Core.Option.{none}
-use Rattle.identities.specs.Families.{about}
+use mathlib.Core.Path.{sym, ap, _∙_}
 use Rattle.identify.specs.declared.counted.Verdict.the-variants.{By}
 use Rattle.identify.proofs.Holders.{held-alone, unheld-alone, wrong-alone}
 use borrow.Author.Needs.{needs}
