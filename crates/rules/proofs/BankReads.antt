@@ -193,10 +193,10 @@ header_reads b s long control e =
     let c = code_in b in
     let m = zeros_from s in
     let p = one_at b m in
-    check _ (Shown b) 14 _ (◌≡ 0x10) (T (leb (words s) W)) (demand (leb (words s) W) 14 0x10) _ (lit< tt)
+    check (rule 15 (OfBank b λ s. OneAfter b (zeros_from s)) (λ p. OfBank b λ s. FirstOne b (zeros_from s) p) ∷ scheme_rules b) (Shown b) 14 _ (◌≡ 0x10) (T (leb (words s) W)) (demand (leb (words s) W) 14 0x10) _ (lit< tt)
     (settled_as 14 (W < words s) _ (◌≡ 0x10) _ (demand (leb (words s) W) 14 0x10) (of_bank_lem b s e λ s. W < words s) (settled_demand 14 0x10 (W < words s) (leb (words s) W) (nleb→lt (words s) W) (λ h l. omega (arith, leb→le (words s) W h)))) λ h.
     let enough : EnoughWords W s = (leb→le (words s) W h, omega (arith, at_lt b 0x10 5)) in
-    check _ (Shown b) 15 _ _ (T (all_zero (drop m c))) (demand (all_zero (drop m c)) 15 p) _ (lit< tt)
+    check (scheme_rules b) (Shown b) 15 _ _ (T (all_zero (drop m c))) (demand (all_zero (drop m c)) 15 p) _ (lit< tt)
     (settled_at 15 p (OfBank b λ s. OneAfter b (zeros_from s)) (λ p. OfBank b λ s. FirstOne b (zeros_from s) p) (all_zero (drop m c))
     (λ h. let (o, f) = one_after b long m h in ((s, e, o), (s, e, f))) (λ h o. none_after b long m h ((of_bank_lem b s e (λ s. OneAfter b (zeros_from s))).1 o))) λ z.
     reads_map (scheme_rules b) (PartsShown b s long enough.0 e) (Shown b) (λ ps. record { scheme = s; control = control_fields b; parts = ps }) (fields_in 0x28 (layout s) (drop 8 c)) (scheme_reads b s long enough.0 e) λ ps i.
@@ -244,7 +244,7 @@ control_reads b =
     let R = Clean b in
     reads_bind (raw_rules b) _ (HasWords b) R (words_in b) _ (words_reads b) λ W (count, full, two, long).
     let t = at b 0x17 1 in
-    check _ R 11 (t ≡ 1) (◌≡ 0x17) (T (eqb t 0)) (demand (eqb t 0) 11 0x17) _ (lit< tt) (settled_bit 11 0x17 t (at_lt b 0x17 1)) λ toggle.
+    check (rule 12 (at b 0x16 1 ≡ 1) (◌≡ 0x16) ∷ []) R 11 (t ≡ 1) (◌≡ 0x17) (T (eqb t 0)) (demand (eqb t 0) 11 0x17) _ (lit< tt) (settled_bit 11 0x17 t (at_lt b 0x17 1)) λ toggle.
     let x = at b 0x16 1 in
     check [] R 12 (x ≡ 1) (◌≡ 0x16) (T (eqb x 0)) (demand (eqb x 0) 12 0x16) (taken W) (lit< tt) (settled_bit 12 0x16 x (at_lt b 0x16 1)) λ xpc.
     (tt, record { count = count; some_words = full; two = two; long = long; toggle = eqb→eq t 0 toggle; xpc = eqb→eq x 0 xpc })
@@ -255,7 +255,7 @@ clean_of b W e = (rw e at (control_reads b)).1
 pub bank_reads : (b : List ℕ) → Reads (bank_rules b) (Shown b) (tag_of_bank b)
 unfolding bank_rules raw_rules tag_of_bank
 bank_reads b =
-    reads_bind (control_rules b) _ (Clean b) (Shown b) (control_in b) _ (control_reads b) λ W c.
+    reads_bind (control_rules b) (rule 13 (¬ (Headed b)) (◌≡ 0x20) ∷ header_rules b) (Clean b) (Shown b) (control_in b) _ (control_reads b) λ W c.
     let h = value 2 (take 8 (code_in b)) in
     step (header_rules b) (Shown b) 13 (¬ (Headed b)) (◌≡ 0x20) _ (given (headed h schemes) 13 0x20) _ (lit< tt)
     (settled_given 13 0x20 (¬ (Headed b)) _ (headed h schemes) (header_decided b h (header_seen b c.long c.some_words))) λ s i.

@@ -101,7 +101,7 @@ field_reads a (integer b) l r d w =
     let (e, u) = front b l d w in
     (tt, (record { symbols = digits_all (shortest 10 v) (whole_digits v); shape = whole_is v; size = rw (value_shortest 10 (lit< tt)) (lt→ltb v (2 ^ b) u) }, rw (value_shortest 10 (lit< tt), e) (sym (take-append-drop b l)), refl))
 field_reads a (digits b n) l r d w =
-    reads_weaken _ (DecimalIs a b n l) (FieldIs a (digits b n) l) (decimal 18 a b n l) (decimal_reads 18 a b n l (lit< tt) d w) λ c i.
+    reads_weaken (rule 18 (10 ^ n ≤ value 2 (take b l)) (◌≡ a) ∷ []) (DecimalIs a b n l) (FieldIs a (digits b n) l) (decimal 18 a b n l) (decimal_reads 18 a b n l (lit< tt) d w) λ c i.
     (record { symbols = i.0; shape = rw i.1 (eqb_refl n); size = tt }, i.2, i.3)
 field_reads a (at_most b n) l r d w =
     let v = value 2 (take b l) in
@@ -115,7 +115,7 @@ field_reads a (numeric b n) l r d w =
     step [] (FieldIs a (numeric b n) l) 19 (¬ (OneThen n v)) (◌≡ a) (NumericIs n v) (given o 19 a) _ (lit< tt) (settled_given 19 a _ (NumericIs n v) o (numeric_decides n v)) λ ds i.
     (tt, (record { symbols = digits_all ds i.0; shape = i.1; size = i.2 }, rw (← i.3, (front b l d w).0) (sym (take-append-drop b l)), refl))
 field_reads a company l r d w =
-    check _ (FieldIs a company l) 16 (P ≡ 7) (◌≡ a) (T (not (eqb P 7))) (demand (not (eqb P 7)) 16 a) _ (lit< tt)
+    check (rule 17 (10 ^ prefix_digits (row_at P) ≤ value 2 (take (prefix_bits (row_at P)) (drop 3 l))) (◌≡ a + 3) ∷ []) (FieldIs a company l) 16 (P ≡ 7) (◌≡ a) (T (not (eqb P 7))) (demand (not (eqb P 7)) 16 a) _ (lit< tt)
     (settled_demand 16 a (P ≡ 7) (not (eqb P 7)) (λ h. eqb→eq P 7 (not_not (eqb P 7) h)) (apart P 7)) λ t.
     row (omega (arith, apart P 7 t, (front 3 l d (omega arith)).1))
   where
@@ -128,7 +128,7 @@ field_reads a company l r d w =
         let f = row_fair (value 2 (take 3 l)) u in
         let b = prefix_bits (row_at (value 2 (take 3 l))) in
         let n = prefix_digits (row_at (value 2 (take 3 l))) in
-        reads_weaken _ (DecimalIs (a + 3) b n (drop 3 l)) (FieldIs a company l) (decimal 17 (a + 3) b n (drop 3 l))
+        reads_weaken (rule 17 (10 ^ n ≤ value 2 (take b (drop 3 l))) (◌≡ a + 3) ∷ []) (DecimalIs (a + 3) b n (drop 3 l)) (FieldIs a company l) (decimal 17 (a + 3) b n (drop 3 l))
         (decimal_reads 17 (a + 3) b n (drop 3 l) (lit< tt) (digits_drop 2 3 l d) (rw length-drop (omega arith))) λ c i.
         let p : partition (length c.symbols) ≡ value 2 (take 3 l) = ap partition i.1 ∙ f.picked in (
           record { symbols = i.0; shape = and (leb 6 (length c.symbols)) (leb (length c.symbols) 12) (le→leb 6 (length c.symbols) (omega arith)) (le→leb (length c.symbols) 12 (omega arith)); size = tt },

@@ -65,7 +65,7 @@ last_rules n f t Place = rule n (¬ (Formed f t)) Place ∷ rule 8 (TooLarge f t
 
 pub last_reads : (n i : ℕ) (f : Form) (t : List ℕ) (Place : ℕ → Type 0) → 0 < n → Place i → Reads (last_rules n f t Place) (LastIs f t) (last_in n i f t)
 last_reads n i f t Place z k =
-    step _ (LastIs f t) n (¬ (Formed f t)) Place R (given (formed f t) n i) _ z
+    step (rule 8 (TooLarge f t) Place ∷ []) (LastIs f t) n (¬ (Formed f t)) Place R (given (formed f t) n i) _ z
     (settled_where n i (¬ (Formed f t)) Place R (given (formed f t) n i) k (settled_given n i (¬ (Formed f t)) R (formed f t) (formed_decides f t))) λ p s.
     check [] (LastIs f t) 8 (TooLarge f t) Place (T (sized f p)) (demand (sized f p) 8 i) (taken p) (lit< tt)
     (settled_at 8 i (TooLarge f t) Place (sized f p) (λ b. (large_of f t p s.0 b, k)) (not_large f t p s.0)) λ b.
@@ -104,7 +104,7 @@ module _ (w : List ℕ) where
   ends : (r : Role) (f : Form) (i : ℕ) (t : List ℕ) → Begins w t i → LayoutReads (last_rules (number_at r) f t (Begins w t)) i (end r f) t
   ends r f i t k =
       let n = number_at r in
-      record { reads = reads_map _ (LastIs f t) (PartsAre (end r f) t) (◌∷ []) (last_in n i f t) (last_reads n i f t (Begins w t) (some_number r) k) λ p i. (one i.0, i.1) }
+      record { reads = reads_map (last_rules n f t (Begins w t)) (LastIs f t) (PartsAre (end r f) t) (◌∷ []) (last_in n i f t) (last_reads n i f t (Begins w t) (some_number r) k) λ p i. (one i.0, i.1) }
 
   goes_on : {r : Role} {f : Form} {k : List ℕ → Layout} {i : ℕ} {t : List ℕ} {P : Type 0} {rs : List Rule} → Begins w t i → (¬ (Stands f t)) ↔ P
       → ((p : List ℕ) → PartIs f t p → Begins w (behind dot t) (i + length (upto dot t) + 1) → LayoutReads rs (i + length (upto dot t) + 1) (k p) (behind dot t))

@@ -169,8 +169,8 @@ name_decided t c u h =
 pub tag_reads : (t : List ℕ) → Reads (text_rules t) (TagText t) (tag_of_text t)
 unfolding text_rules tag_of_text text_of
 tag_reads t =
-    step _ (TagText t) 2 (¬ (Begun start t)) (◌≡ 0) _ (given (after start t) 2 0) _ (lit< tt) (settled_given 2 0 (¬ (Begun start t)) _ (after start t) (after_decides start t)) λ u e.
-    step _ (TagText t) 20 ((p : ℕ) × FaultAt t p) (FaultAt t) (ControlIs t u e) (control_fields_in (length start) u) _ (lit< tt) (control_settled t u e) λ k (h, b).
+    step (rule 20 ((p : ℕ) × FaultAt t p) (FaultAt t) ∷ rule 3 (¬ (Listed t)) (NameAt t) ∷ name_rules t) (TagText t) 2 (¬ (Begun start t)) (◌≡ 0) _ (given (after start t) 2 0) _ (lit< tt) (settled_given 2 0 (¬ (Begun start t)) _ (after start t) (after_decides start t)) λ u e.
+    step (rule 3 (¬ (Listed t)) (NameAt t) ∷ name_rules t) (TagText t) 20 ((p : ℕ) × FaultAt t p) (FaultAt t) (ControlIs t u e) (control_fields_in (length start) u) _ (lit< tt) (control_settled t u e) λ k (h, b).
     let a = given (named schemes k.rest) 3 k.next in
     step (name_rules t) (TagText t) 3 (¬ (Listed t)) (NameAt t) (NameIs k.rest) a _ (lit< tt)
     (settled_where 3 k.next (¬ (Listed t)) (NameAt t) (NameIs k.rest) a (k.control, k.rest, h, b) (settled_given 3 k.next (¬ (Listed t)) (NameIs k.rest) (named schemes k.rest) (name_decided t k.control k.rest h))) λ c r.
