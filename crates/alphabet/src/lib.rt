@@ -1,5 +1,7 @@
 // String parts, whose characters are the 82 of the standard's table A-1: read from a text, written to a text, and counted in the groups
 // of seven bits that a bank holds.
+#![tactic(auto)]
+
 mod table;
 
 ghost use Rattle.std.specs.Prelude.{◌≡◌, [], ◌∷◌, ◌+◌, ◌*◌, ◌<◌, ◌≤◌, length, take, drop, set};

@@ -1,5 +1,7 @@
 // Fields of bits in a slice of bytes, most significant bit first: read at any place, and written one after the other. A number's digits in any
 // base, stored one to a byte.
+#![tactic(auto)]
+
 ghost use Rattle.std.specs.Prelude.{◌≡◌, ◌++◌, ◌+◌, ◌-◌, ◌*◌, ◌/◌, ◌%◌, ◌^◌, min, ◌≤◌, ◌<◌, length};
 ghost use Rattle.numeral.specs.Numeral.{numeral, splice};
 ghost use Rattle.bits.specs.Bits.{field_at, Within};

@@ -1,5 +1,7 @@
 // The public calls for other languages (include/tagcodec.h): the codec's four, and the two of pure identity. A lent slice is a pointer and a
 // length, an answer four numbers. No call has a condition; what C itself owes of a pointer stands in the header.
+#![tactic(auto)]
+
 ghost use Rattle.std.specs.Prelude.{◌≡◌};
 ghost use Rattle.rules.specs.Calls.{text_to_bank, bank_to_text, raw_line};
 ghost use Rattle.identities.specs.Calls.{tag_to_identity, identity_to_tag};

@@ -1,5 +1,7 @@
 // The four public calls of document 01. Any text and any bank may come in: none has a condition, and each fixes its answer and every
 // byte of the lent output. All is read before anything is written.
+#![tactic(auto)]
+
 pub mod ties;
 
 ghost use Rattle.std.specs.Prelude.{◌≡◌};

@@ -1,5 +1,7 @@
 // Pieces of texts. Written: bytes, numbers in decimal, bytes in hexadecimal. Read: how a text begins, runs of decimal digits, hexadecimal
 // digits.
+#![tactic(auto)]
+
 ghost use Rattle.std.specs.Prelude.{cond, ◌≡◌, ◌+◌, ◌*◌, ◌/◌, ◌%◌, ◌≤◌, ◌<◌, length, take, drop};
 ghost use Rattle.numeral.specs.Numeral.{value, numeral, size, shortest, splice};
 ghost use Rattle.rules.specs.Bytes.{all, digits_text, hex_digit, hex_text};

@@ -1,6 +1,8 @@
 // The two calls of document 02, C-16: a tag text to the text of its pure identity, and an identity with a filter to a tag text. Any text and any
 // filter may come in: none has a condition, and each fixes its answer and every byte of the lent output. All is read before anything is
 // written. W plays no part, and is 0 in every answer.
+#![tactic(auto)]
+
 mod counted;
 mod direct;
 mod families;

@@ -1,5 +1,6 @@
 // Pure identities (document 02, C-16): the grammar of 001, section 6.3, the way from a tag to its identity and back, and the theorems about
 // them. No code: what stands here are the names that the definitions and the code share.
+#![tactic(auto)]
 
 // The families.
 #[derive(Drop)]

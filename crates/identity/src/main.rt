@@ -1,4 +1,6 @@
 // identity (document 02, C-16): lines in, a reply to each out.
+#![tactic(auto)]
+
 use replies::Program;
 
 // A program can't choose its exit status, so the launcher goes by the line on standard error.

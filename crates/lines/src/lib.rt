@@ -1,5 +1,7 @@
 // The lines of a program (document 01), each to its reply; and the turns of a session, in which an input is read in pieces of any size. Nothing
 // here reads or writes: a program does, and hands over what each read gave.
+#![tactic(auto)]
+
 ghost use Rattle.std.specs.Prelude.{◌≡◌, ◌+◌, ◌*◌, ◌≤◌, leb, length, drop};
 ghost use Rattle.rules.specs.Bytes.{upto};
 ghost use Rattle.replies.specs.Writing.{Wrote, reply_room};

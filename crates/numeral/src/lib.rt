@@ -1,1 +1,2 @@
 // Positional numerals in any base: definitions in specs/, laws in proofs/. No code.
+#![tactic(auto)]

@@ -1,4 +1,6 @@
 // What a text is made of, each read at its place: the control fields, the name of a scheme, and the parts by their form.
+#![tactic(auto)]
+
 mod control;
 mod names;
 mod parts;

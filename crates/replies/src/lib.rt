@@ -1,4 +1,6 @@
 // The reply to one line: `B`, `T`, `R`, `N` or `X` of tagline (document 01), `I`, `T`, `N` or `X` of identity (document 02, C-16).
+#![tactic(auto)]
+
 mod choice;
 mod hex;
 mod identity;

@@ -1,5 +1,6 @@
 // The written rules: document 01 as definitions in specs/, and the theorems about them in proofs/. No code: what stands here are the
 // names that the rules and the code share.
+#![tactic(auto)]
 
 // The sixteen schemes (document 01, and C-11 of document 02).
 #[derive(Drop)]

@@ -1,5 +1,7 @@
 // The schemes in code: their types and their table, the rows of the partition tables, the two counts of bits, the
 // record of a tag, the numbers of refusals.
+#![tactic(auto)]
+
 pub mod counts;
 pub mod outlines;
 pub mod record;

@@ -1,5 +1,7 @@
 // A program's session (document 01): what is read from standard input is answered on standard output, turn after turn. Only the reading and
 // the writing are here; `lines` has the rest.
+#![tactic(auto)]
+
 ghost use Rattle.std.specs.Prelude.{◌≡◌, ◌≤◌, ◌<◌, length, take};
 ghost use Rattle.lines.specs.Lines.{input_room};
 ghost use Rattle.lines.specs.Turns.{most_kept, turn_of, Took};

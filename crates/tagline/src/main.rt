@@ -1,4 +1,6 @@
 // tagline (document 01): lines in, a reply to each out.
+#![tactic(auto)]
+
 use replies::Program;
 
 // A program can't choose its exit status, so the launcher goes by the line on standard error.

@@ -1,5 +1,7 @@
 // Powers of ten, and with them the integer of a numeric string: a 1 is put before its digits, so that leading zeros survive (document 02,
 // C-11).
+#![tactic(auto)]
+
 ghost use Rattle.std.specs.Prelude.{◌≡◌, ◌^◌, ◌≤◌, ◌<◌};
 ghost use Rattle.numeral.specs.Numeral.{shortest};
 ghost use Rattle.rules.specs.BankNumbers.{numeric_in};
