@@ -10,8 +10,7 @@ use lib.Pow.{ones_split, ones_lt}
 use lib.Bits.{bit_and, and_mask}
 use borrow.Author.Rules.{rules}
 use Rattle.bits.proofs.Pieces.{rest_is}
-use Rattle.bits.proofs.rest_of_byte.Statement.{statement}
-use Rattle.bits.proofs.rest_of_byte.Tie as tie
+use Rattle.bits.proofs.rest_of_byte.Goals as goal
 
 -- 255 without its k low bits
 mask : (k : ℕ) → k < 8 → 255 / 2 ^ k ≡ 2 ^ (8 - k) - 1
@@ -19,14 +18,11 @@ mask k h =
     let all : 8 - k + k ≡ 8 = omega arith in
     ap (◌/ 2 ^ k) (rw all at (ones_split (8 - k) k)) ∙ digits_div (2 ^ (8 - k) - 1) (ones_lt k)
 
-cast_result : tie.Need-overflow-cast-result
-cast_result c = omega (arith, c.shared-slice-known.given (c.before.args.at / 8))
+pub overflow_cast-result : goal.overflow_cast-result
+overflow_cast-result c = omega (arith, c.type_inv.bank (c.args.at / 8))
 
-returns : tie.Need-returns
+pub returns : goal.returns
 returns c =
-    let s = c.before.args in
+    let s = c.args in
     let byte = get_or s.bank.now (s.at / 8) 0 in
-    ap (bit_and byte) (mask (s.at % 8) (mod-lt s.at (lit< tt))) ∙ and_mask byte (8 - s.at % 8) ∙ sym (rest_is s.bank.now s.at c.before.requires)
-
-pub rest_of_byte_spec : {M : Type 1} → statement M
-rest_of_byte_spec = tie.close (tie.spec (λ c. search rules) cast_result (λ c. search rules) returns)
+    ap (bit_and byte) (mask (s.at % 8) (mod-lt s.at (lit< tt))) ∙ and_mask byte (8 - s.at % 8) ∙ sym (rest_is s.bank.now s.at c.requires)

@@ -7,17 +7,13 @@ use lib.Pow.{shl_exact, pow_pos}
 use lib.Bits.{and_mask}
 use native.Mathlib.Nat.{one-mul}
 use borrow.Author.Rules.{rules}
-use Rattle.bits.proofs.low.Statement.{statement}
-use Rattle.bits.proofs.low.Tie as tie
+use Rattle.bits.proofs.low.Goals as goal
 
-power : (c : tie.Start) → 1 * 2 ^ c.args.n % 2 ^ 64 ≡ 2 ^ c.args.n
+power : (c : goal.Start) → 1 * 2 ^ c.args.n % 2 ^ 64 ≡ 2 ^ c.args.n
 power c = shl_exact 1 c.args.n 64 (lit< tt) (omega arith) ∙ one-mul _
 
-sub_result : tie.Need-overflow-sub-result
-sub_result c = omega (arith, power c, pow_pos c.args.n)
+pub overflow_sub-result : goal.overflow_sub-result
+overflow_sub-result c = omega (arith, power c, pow_pos c.args.n)
 
-returns : tie.Need-returns
+pub returns : goal.returns
 returns c = rw (power c) (and_mask c.args.v c.args.n)
-
-pub low_spec : {M : Type 1} → statement M
-low_spec = tie.close (tie.spec (λ c. search rules) sub_result returns)
