@@ -5,15 +5,11 @@ use native.Mathlib.Omega.{arith}
 use borrow.Author.Rules.{rules}
 use Rattle.rules.specs.Schemes.{row_at, prefix_digits}
 use Rattle.scheme.proofs.Sums.{same_cell, twelve, Rounded, rounded}
-use Rattle.scheme.proofs.rows.prefix.Statement.{statement}
-use Rattle.scheme.proofs.rows.prefix.Tie as tie
+use Rattle.scheme.proofs.rows.prefix.Goals as goal
 
-returns : tie.Need-returns
+pub returns : goal.returns
 returns c =
     let p = c.args.p in
     let e : p + prefix_digits (row_at p) ≡ 12 = twelve p c.requires in
     let b : Rounded p (row_at p) = rounded p c.requires in
     same_cell _ _ _ _ (omega arith) (omega arith)
-
-pub prefix_spec : {M : Type 1} → statement M
-prefix_spec = tie.close (tie.spec (λ c. search rules) (λ c. search rules) (λ c. search rules) returns)
