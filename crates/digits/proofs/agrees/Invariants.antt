@@ -1,0 +1,15 @@
+-- The invariant: the bytes before i agree, so the answer is that of the rest.
+use Prim.Native.Nat.{◌-◌, ◌≤◌}
+use mathlib.Core.Path.{◌≡◌, refl, sym, ap, ◌∙◌}
+use lib.ListN.{length, drop}
+use borrow.Author.Rules.{rules}
+use Rattle.rules.specs.TextNumbers.{after}
+use Rattle.digits.specs.Starts.{begun}
+use Rattle.digits.proofs.Starts.{agrees, differs, agreed}
+use Rattle.digits.proofs.agrees.Given as goal
+
+abbrev pub invariant-loop-i : goal.invariant-loop-i
+invariant-loop-i l = (l.i ≤ length l.start) × (after (drop l.from l.start) (drop l.from l.text) ≡ after (drop l.i l.start) (drop l.i l.text))
+
+abbrev pub decreases-loop-i : goal.decreases-loop-i
+decreases-loop-i l = length l.start - l.i
