@@ -3,11 +3,11 @@ ghost use Rattle.std.specs.Prelude.{◌≡◌, ◌+◌, ◌-◌, ◌/◌, ◌≤
 ghost use Rattle.scheme.specs.Counts.{address_of, behind_of};
 
 // An address in the bank. The lent bank starts at 10h.
-#[derive(Drop)]
+#[derive(Clone, Copy)]
 pub struct BankAddress(pub usize);
 
 // A bit of the code. The header begins at 0.
-#[derive(Drop)]
+#[derive(Clone, Copy)]
 pub struct CodeBit(pub usize);
 
 impl BankAddress {
