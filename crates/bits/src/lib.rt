@@ -9,7 +9,7 @@ ghost use Rattle.bits.specs.Streams.{waiting, Streamed, Takes};
 
 // Where a stream of bits stands. The bytes before index `at` are stored. Bits that do not fill a byte yet wait: they are the `count` low
 // bits of `bits`, fewer than eight.
-#[derive(Drop)]
+#[derive(Clone, Copy)]
 pub struct Stream {
     pub at: usize,
     pub bits: u64,

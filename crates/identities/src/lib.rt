@@ -3,7 +3,7 @@
 #![tactic(auto)]
 
 // The families.
-#[derive(Drop)]
+#[derive(Clone, Copy)]
 pub enum Family {
     Sgtin,
     Sscc,
@@ -20,7 +20,7 @@ pub enum Family {
 
 // The components of 001, section 5, that an identity is made of: one or more digits; zero or more; one to so many; a number with no leading
 // zero; characters; the characters of a component or part reference.
-#[derive(Drop)]
+#[derive(Clone, Copy)]
 pub enum Component {
     Padded,
     PaddedOrEmpty,

@@ -3,7 +3,7 @@
 #![tactic(auto)]
 
 // The sixteen schemes (document 01, and C-11 of document 02).
-#[derive(Drop)]
+#[derive(Clone, Copy)]
 pub enum Scheme {
     Sgtin96,
     Sgtin198,
@@ -24,14 +24,14 @@ pub enum Scheme {
 }
 
 // The control fields of a text by name (document 02, C-13): bit 15h of the bank, the user memory bit, and bits 18h to 1Fh, the attribute bits.
-#[derive(Drop)]
+#[derive(Clone, Copy)]
 pub enum ControlName {
     Umi,
     Att,
 }
 
 // Their values.
-#[derive(Drop)]
+#[derive(Clone, Copy)]
 pub struct ControlFields {
     pub umi: u8,
     pub att: u8,
@@ -41,7 +41,7 @@ pub struct ControlFields {
 pub const MOST_CHARACTERS: usize = 20;
 
 // The partition tables whose references have digits: as many as the row has in A to D, at most so many in cpi-96's own table.
-#[derive(Drop)]
+#[derive(Clone, Copy)]
 pub enum Table {
     A,
     B,
@@ -52,7 +52,7 @@ pub enum Table {
 
 // What follows the reference of one of these tables: an integer or a string of so many bits, or a numeric string of so many bits and at
 // most so many digits.
-#[derive(Drop)]
+#[derive(Clone, Copy)]
 pub enum Last {
     Integer(usize),
     String(usize),
@@ -61,7 +61,7 @@ pub enum Last {
 
 // A partition table and what follows its reference: the last part, or so many zero bits. The reference of table E is itself the last
 // part.
-#[derive(Drop)]
+#[derive(Clone, Copy)]
 pub enum Body {
     Then(Table, Last),
     Zeros(Table, usize),
@@ -69,7 +69,7 @@ pub enum Body {
 }
 
 // The parts after the header: F, the filter, and a partition table with what follows it; or three integers of so many bits, and no filter.
-#[derive(Drop)]
+#[derive(Clone, Copy)]
 pub enum Parts {
     F(Body),
     Integers(usize, usize, usize),

@@ -9,7 +9,7 @@ use super::types::{
 use rules::{Body, Last, Parts, Scheme, Table};
 
 // The columns of a scheme in the table.
-#[derive(Drop)]
+#[derive(Clone, Copy)]
 pub struct Outline {
     pub header: u8,
     pub bits: usize,
@@ -122,7 +122,7 @@ pub fn about(s: Scheme) -> Outline
 }
 
 // What a header names: a listed scheme, or none.
-#[derive(Drop)]
+#[derive(Clone, Copy)]
 pub enum Headed {
     Is(Scheme),
     Unlisted,

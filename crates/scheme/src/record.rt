@@ -9,7 +9,7 @@ use rules::{ControlFields, MOST_CHARACTERS, Scheme};
 // `digits` are those of the prefix. What a scheme has no part for is 0, so that a tag has one record: gid-96's three integers are
 // prefix, reference and serial, and giai-96's reference, its last part, is the serial. `count` says how many characters a string has, or
 // how many digits a numeric string, whose value is the serial.
-#[derive(Drop)]
+#[derive(Clone, Copy)]
 pub struct Record {
     pub scheme: Scheme,
     pub control: ControlFields,
@@ -24,7 +24,7 @@ pub struct Record {
 
 // What reading a text or a bank gives: number 0, place 0 and the record of its tag, or the number and the place of the refusal and a blank
 // record.
-#[derive(Drop)]
+#[derive(Clone, Copy)]
 pub struct Reading {
     pub number: u8,
     pub place: usize,

@@ -9,7 +9,7 @@ ghost use Rattle.scheme.specs.Rows.{prefix_of, reference_of, SumIn};
 use rules::Table;
 
 // A cell of a row: bits and digits.
-#[derive(Drop)]
+#[derive(Clone, Copy)]
 pub struct Cell {
     pub bits: usize,
     pub digits: usize,
@@ -36,7 +36,7 @@ pub fn prefix(p: usize) -> Cell
 }
 
 // The bits and the digits that prefix and reference have together.
-#[derive(Drop)]
+#[derive(Clone, Copy)]
 struct Sum(usize, usize);
 
 // The sum of a table: it is the same in every row.

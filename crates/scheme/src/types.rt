@@ -4,7 +4,7 @@ ghost use Rattle.std.specs.Prelude.{◌≡◌};
 
 use rules::Scheme;
 
-#[derive(Drop)]
+#[derive(Clone, Copy)]
 pub struct Sgtin96;
 
 impl Sgtin96 {
@@ -21,7 +21,7 @@ impl Sgtin96 {
     }
 }
 
-#[derive(Drop)]
+#[derive(Clone, Copy)]
 pub struct Sgtin198;
 
 impl Sgtin198 {
@@ -38,7 +38,7 @@ impl Sgtin198 {
     }
 }
 
-#[derive(Drop)]
+#[derive(Clone, Copy)]
 pub struct Sscc96;
 
 impl Sscc96 {
@@ -55,7 +55,7 @@ impl Sscc96 {
     }
 }
 
-#[derive(Drop)]
+#[derive(Clone, Copy)]
 pub struct Sgln96;
 
 impl Sgln96 {
@@ -72,7 +72,7 @@ impl Sgln96 {
     }
 }
 
-#[derive(Drop)]
+#[derive(Clone, Copy)]
 pub struct Sgln195;
 
 impl Sgln195 {
@@ -89,7 +89,7 @@ impl Sgln195 {
     }
 }
 
-#[derive(Drop)]
+#[derive(Clone, Copy)]
 pub struct Grai96;
 
 impl Grai96 {
@@ -106,7 +106,7 @@ impl Grai96 {
     }
 }
 
-#[derive(Drop)]
+#[derive(Clone, Copy)]
 pub struct Grai170;
 
 impl Grai170 {
@@ -123,7 +123,7 @@ impl Grai170 {
     }
 }
 
-#[derive(Drop)]
+#[derive(Clone, Copy)]
 pub struct Giai96;
 
 impl Giai96 {
@@ -140,7 +140,7 @@ impl Giai96 {
     }
 }
 
-#[derive(Drop)]
+#[derive(Clone, Copy)]
 pub struct Gsrn96;
 
 impl Gsrn96 {
@@ -157,7 +157,7 @@ impl Gsrn96 {
     }
 }
 
-#[derive(Drop)]
+#[derive(Clone, Copy)]
 pub struct Gsrnp96;
 
 impl Gsrnp96 {
@@ -174,7 +174,7 @@ impl Gsrnp96 {
     }
 }
 
-#[derive(Drop)]
+#[derive(Clone, Copy)]
 pub struct Gdti96;
 
 impl Gdti96 {
@@ -191,7 +191,7 @@ impl Gdti96 {
     }
 }
 
-#[derive(Drop)]
+#[derive(Clone, Copy)]
 pub struct Gdti174;
 
 impl Gdti174 {
@@ -208,7 +208,7 @@ impl Gdti174 {
     }
 }
 
-#[derive(Drop)]
+#[derive(Clone, Copy)]
 pub struct Gid96;
 
 impl Gid96 {
@@ -225,7 +225,7 @@ impl Gid96 {
     }
 }
 
-#[derive(Drop)]
+#[derive(Clone, Copy)]
 pub struct Gdti113;
 
 impl Gdti113 {
@@ -242,7 +242,7 @@ impl Gdti113 {
     }
 }
 
-#[derive(Drop)]
+#[derive(Clone, Copy)]
 pub struct Sgcn96;
 
 impl Sgcn96 {
@@ -259,7 +259,7 @@ impl Sgcn96 {
     }
 }
 
-#[derive(Drop)]
+#[derive(Clone, Copy)]
 pub struct Cpi96;
 
 impl Cpi96 {
