@@ -70,10 +70,10 @@ last_reads n P R (some x) z h = ((h.0, tt), h.1)
 pub identity_reads : (f : ℕ) (t : List ℕ) → Reads (identity_rules f t) (Given f t) (tag_of_identity f t)
 unfolding identity_rules tag_of_identity
 identity_reads f t =
-    step _ (Given f t) 23 (¬ ((ι : Identity) × IdentityText t ι)) (◌≡ 0) (IdentityText t) (given (identity_in t) 23 0) _ (lit< tt)
+    step (rule 24 (WrongFilter f t) (◌≡ 0) ∷ rule 25 (¬ ((τ : Tag) × Holds t τ)) (◌≡ 0) ∷ []) (Given f t) 23 (¬ ((ι : Identity) × IdentityText t ι)) (◌≡ 0) (IdentityText t) (given (identity_in t) 23 0) _ (lit< tt)
     (settled_given 23 0 (¬ ((ι : Identity) × IdentityText t ι)) (IdentityText t) (identity_in t) (identity_decides t)) λ ι r.
     let most = most_filter ι.family in
-    check _ (Given f t) 24 (WrongFilter f t) (◌≡ 0) (T (leb f most)) (demand (leb f most) 24 0) _ (lit< tt)
+    check (rule 25 (¬ ((τ : Tag) × Holds t τ)) (◌≡ 0) ∷ []) (Given f t) 24 (WrongFilter f t) (◌≡ 0) (T (leb f most)) (demand (leb f most) 24 0) _ (lit< tt)
     (settled_demand 24 0 (WrongFilter f t) (leb f most) (λ h. wrong_filter f t ι r (nleb→lt f most h)) (λ h. right_filter f t ι r (leb→le f most h))) λ h.
     last_reads 25 (¬ ((τ : Tag) × Holds t τ)) (Given f t) (chosen f ι.family (joined ι.parts)) (lit< tt) (chosen_decides f t ι r (leb→le f most h))
 
