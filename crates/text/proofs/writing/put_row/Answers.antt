@@ -1,0 +1,37 @@
+-- The row that the digits pick has the reference's digits, at most eleven.
+use Prim.Native.Nat.{◌≤◌}
+use mathlib.Core.Path.{◌≡◌, ap, ◌∙◌}
+use native.Mathlib.Omega.{arith}
+use borrow.Author.Rules.{rules}
+use Rattle.rules.specs.Schemes.{cell, row_of, row_at}
+use Rattle.rules.proofs.Rows.{row_picked}
+use Rattle.digits.proofs.Joins.{number_put}
+use Rattle.text.proofs.Rooms.{reference_short}
+use Rattle.text.proofs.writing.put_row.Goals as goal
+use Rattle.text.proofs.writing.put_row.Goals.{After-reference-cell}
+
+pub reference-cell-requires : goal.reference-cell-requires
+reference-cell-requires c =
+    let company = c.requires.0 in
+    omega (arith, c.by_digits.ensures, (row_picked c.args.tag.digits company.least company.most).0)
+
+module _ (c : After-reference-cell) where
+  digits_are : c.reference-cell.result.digits ≡ (cell c.args.table (row_of c.args.tag.digits)).1
+  digits_are = ap (λ x. x.digits) c.reference-cell.ensures ∙ ap (λ p. (cell c.args.table (row_at p)).1) c.by_digits.ensures
+
+  few : c.reference-cell.result.digits ≤ 11
+  few =
+      let s = c in
+      rw digits_are (reference_short c.args.table c.args.tag.digits c.requires.0.least c.requires.0.most)
+
+pub put_digits-requires : goal.put_digits-requires
+put_digits-requires c = omega (arith, few (goal.at.put_digits-requires c).After-reference-cell)
+
+pub overflow_add-result : goal.overflow_add-result
+overflow_add-result c = omega (arith, few (goal.at.overflow_add-result c).After-reference-cell)
+
+pub returns : goal.returns
+returns c =
+    let reference = (goal.at.returns c).After-reference-cell in
+    let tag = c.args.tag in
+    record { puts = rw (← digits_are reference) (number_put c.reference-cell.result.digits tag.reference _ c.put_digits.ensures); upper_bound = omega (arith, few reference) }
