@@ -13,7 +13,7 @@ ghost use Rattle.replies.specs.Writing.{Wrote, reply_room};
 pub use choice::{MOST_CHARACTERS, REPLY_ROOM};
 
 // Whose reply is meant.
-#[derive(Drop)]
+#[derive(Clone, Copy)]
 pub enum Program {
     Tagline,
     Identity,

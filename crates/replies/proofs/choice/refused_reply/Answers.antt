@@ -1,0 +1,43 @@
+-- The raw line is written behind the letter and the number; where it is refused, the output is as it was.
+use Prim.Native.Nat.{◌+◌, ◌≤◌}
+use mathlib.Core.Path.{◌≡◌, ◌∙◌}
+use native.Mathlib.Omega.{arith}
+use lib.ListN.{set, length-set}
+use borrow.Author.Rules.{rules}
+use Rattle.rules.specs.BankNumbers.{tag_of_bank}
+use Rattle.replies.specs.Replies.{space, of_bank}
+use Rattle.replies.specs.Writing.{Wrote, after_number}
+use Rattle.replies.proofs.Screens.{raw_shown, raw_hidden}
+use Rattle.replies.proofs.choice.refused_reply.Goals as goal
+use Rattle.replies.proofs.choice.refused_reply.Goals.{After-slice_known-in-Written-1}
+
+-- the raw line, the letter and the number are written
+shown : (c : After-slice_known-in-Written-1) → let put = c.put_number-end in
+    let n = c.in-Written.n in
+    let s = c in
+    (n ≤ 145) × (put.result ≡ 4) × Wrote (of_bank c.args.bank.now (tag_of_bank c.args.bank.now)) c.args.out.now (n + after_number) (set put.new.out put.result space)
+shown c =
+    let put = c.put_number-end in
+    let raw = c.raw_line in
+    let s = c in
+    raw_shown c.args.bank.now c.args.out.now raw.new.out c.in-Written.n c.requires.1 c.args.number put.result put.new.out c.requires.0 _
+    (rw c.in-Written.is at raw.ensures) put.ensures
+
+pub bounds-out-end : goal.bounds-out-end
+bounds-out-end c = omega (arith, (shown c).1, c.put_number-end.auto.out)
+
+pub returns-in-Refused : goal.returns-in-Refused
+returns-in-Refused c =
+    let put = c.put_number in
+    let raw = c.raw_line in
+    raw_hidden c.args.bank.now c.args.out.now raw.new.out _ c.requires.1 c.args.number put.result put.new.out c.requires.0 _
+    (rw c.in-Refused.is at raw.ensures) put.ensures
+
+pub overflow_add-result : goal.overflow_add-result
+overflow_add-result c = omega (arith, (shown c).0)
+
+pub shape_of-out-in-Written : goal.shape_of-out-in-Written
+shape_of-out-in-Written c = simp length-set (c.put_number-end.auto.out ∙ c.out-1.given.1)
+
+pub returns-in-Written : goal.returns-in-Written
+returns-in-Written c = (shown c).2
