@@ -8,8 +8,7 @@ use borrow.Author.Tests.{le-leb, lt-leb}
 use Rattle.numeral.proofs.Arithmetic.{lt_or_ge}
 use Rattle.replies.specs.Writing.{reply_room}
 use Rattle.lines.specs.Lines.{growth}
-use Rattle.lines.proofs.has_room.Statement.{statement}
-use Rattle.lines.proofs.has_room.Tie as tie
+use Rattle.lines.proofs.has_room.Goals as goal
 
 same_test : (n m : ℕ) → reply_room ≤ m → leb n ((m - reply_room) / growth) ≡ leb (growth * n + reply_room) m
 same_test n m h =
@@ -18,11 +17,8 @@ same_test n m h =
     (λ (l : n ≤ (m - reply_room) / growth). le-leb n ((m - reply_room) / growth) l ∙ sym (le-leb (growth * n + reply_room) m (omega arith)))
     (lt_or_ge ((m - reply_room) / growth) n)
 
-short : tie.Need-returns
-short c = let a = c.before.args in sym (lt-leb (growth * a.input + reply_room) a.out (omega arith))
+pub returns-then-out-lt-REPLY_ROOM : goal.returns-then-out-lt-REPLY_ROOM
+returns-then-out-lt-REPLY_ROOM c = let a = c.args in sym (lt-leb (growth * a.input + reply_room) a.out (omega arith))
 
-long : tie.Need-returns-2
-long c = let a = c.before.args in same_test a.input a.out c.if1.false
-
-pub has_room_spec : {M : Type 1} → statement M
-has_room_spec = tie.close (tie.spec short long)
+pub returns : goal.returns
+returns c = let a = c.args in same_test a.input a.out c.if-out-lt-REPLY_ROOM.false
