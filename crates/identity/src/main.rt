@@ -2,12 +2,21 @@
 #![tactic(auto)]
 
 use replies::Program;
+use std::process::ExitCode;
 
-// A program can't choose its exit status, so the launcher goes by the line on standard error.
-fn main() {
-    sessions::run(
+// Fails where a read or a write failed, which a line on standard error then says.
+fn main(rt: HostRuntime) -> ExitCode {
+    let stopped = sessions::run(
         Program::Identity,
+        &mut rt.stdin(),
+        &mut rt.stdout(),
+        &mut rt.stderr(),
         b"identity: a write to standard output failed: replies are missing\n",
         b"identity: a read from standard input failed: not every line is answered\n",
     );
+    if stopped.sent && stopped.ended {
+        ExitCode::SUCCESS
+    } else {
+        ExitCode::FAILURE
+    }
 }

@@ -5,12 +5,11 @@ use mathlib.Core.Logic.{◌⊎◌}
 use mathlib.Core.List.{List, [], ◌∷◌, ◌++◌}
 use mathlib.Core.Bool.{Bool, true, false}
 use native.Mathlib.Omega.{arith}
-use lib.IntN.{ℤ}
 use lib.Dec.{lit<, lit≤}
 use lib.ListN.{length, take, drop, length-append, length-drop}
 use lib.Seq.{take_all}
 use borrow.Rule.Slice.PartMut.{take_put}
-use Rattle.io.specs.Counts.{clamp_len}
+use Rattle.std.specs.Prelude.{Result}
 use Rattle.replies.specs.declared.Program.{Program}
 use Rattle.lines.specs.Lines.{output_of, input_room}
 use Rattle.lines.specs.Turns.{most_kept, turn_of, session, input_of, turn_at, seen, Took}
@@ -20,13 +19,13 @@ use Rattle.lines.proofs.Turns.{on_buffer, few_kept}
 use Rattle.lines.proofs.Sessions.{in_pieces, one_more}
 use Rattle.sessions.specs.declared.After.{After}
 use Rattle.sessions.specs.declared.Stopped.{Stopped}
-use Rattle.sessions.specs.Runs.{given, Taken, OneTurn, most_reads, Ran}
+use Rattle.sessions.specs.Runs.{clamp_len, given, Taken, OneTurn, most_reads, Ran}
 
 true_is_not_false : true ≡ false → ⊥
 true_is_not_false h = let z : ◌≡◌ {A = ℕ} 0 1 = cc in absurd (omega arith)
 
 -- a turn on the bytes that were kept and read is one on the buffer
-module _ (π : Program) (got : ℤ) (n k : ℕ) (buffer out : List ℕ) (count : k ≡ clamp_len got (length (take (length buffer - n) (drop n buffer)))) where
+module _ {E : Type 0} (π : Program) (got : Result ℕ E) (n k : ℕ) (buffer out : List ℕ) (count : k ≡ clamp_len got (length (take (length buffer - n) (drop n buffer)))) where
   all_given : take k (drop n buffer) ≡ given got n buffer
   all_given =
       let e : take (length buffer - n) (drop n buffer) ≡ drop n buffer = take_all (length buffer - n) (drop n buffer) (omega (arith, length-drop n buffer)) in
@@ -39,7 +38,7 @@ module _ (π : Program) (got : ℤ) (n k : ℕ) (buffer out : List ℕ) (count :
   for_given r start out' h room l t = rw all_given at (on_buffer π n k buffer out r start out' h room l t)
 
 -- whatever e the read put behind the first n bytes of l, they stay, and the turn is one for some bytes
-pub for_some : (π : Program) (got : ℤ) (n : ℕ) (l e out : List ℕ) (r : Turned) (sent : Bool) (input' out' : List ℕ) → n ≤ length l
+pub for_some : {E : Type 0} (π : Program) (got : Result ℕ E) (n : ℕ) (l e out : List ℕ) (r : Turned) (sent : Bool) (input' out' : List ℕ) → n ≤ length l
     → let buffer = back l n e in
     Took (turn_of π (take n buffer) (given got n buffer)) buffer out r input' out' → OneTurn π (take n l) (record { kept = r.kept; ended = r.ended; heard = true; sent = sent }) input' out'
 for_some π got n l e out r sent input' out' h t =

@@ -2,16 +2,17 @@
 // the writing are here; `lines` has the rest.
 #![tactic(auto)]
 
-ghost use Rattle.std.specs.Prelude.{◌≡◌, ◌≤◌, ◌<◌, length, take};
+ghost use Rattle.std.specs.Prelude.{◌≡◌, ◌≤◌, ◌<◌, length, take, is_err};
 ghost use Rattle.lines.specs.Lines.{input_room};
 ghost use Rattle.lines.specs.Turns.{most_kept, turn_of, Took};
-ghost use Rattle.sessions.specs.Runs.{full_room, given, negative, OneTurn, Ran, HasRun};
+ghost use Rattle.sessions.specs.Runs.{full_room, given, clamp_len, OneTurn, Ran, HasRun};
 
-use libc::{STDERR_FILENO, STDIN_FILENO, STDOUT_FILENO};
 use lines::Turned;
 use replies::Program;
+use std::io;
+use std::io::{Read, Write};
 
-// The size of the input's buffer (`io::large_buffer`), which holds what is kept and what a read gives.
+// The size of the input's buffer, which holds what is kept and what a read gives.
 const INPUT: usize = 65536;
 
 // The room for the replies to a full buffer.
@@ -20,21 +21,32 @@ const ROOM: usize = lines::GROWTH * INPUT + lines::REPLY_ROOM;
 // The most reads that are made. Nobody meets this limit: at a read a nanosecond it takes 584 years.
 const MOST_READS: u64 = u64::MAX;
 
+// How many bytes a read that answered `got` has put at the start of `behind`: none, where it failed.
+fn count(got: io::Result<usize>, behind: &[u8]) -> usize
+    ensures in_bounds { result ≤ length behind.now }
+    ensures value { result ≡ clamp_len got (length behind.now) }
+{
+    match got {
+        Ok(n) => n.min(behind.len()),
+        Err(_) => 0,
+    }
+}
+
 // The turn for what a read has put behind the first `kept` bytes of the input. `got` is the read's answer: how many bytes these are.
-fn turn_for(program: Program, got: isize, input: &mut [u8], kept: usize, out: &mut [u8]) -> Turned
+fn turn_for(program: Program, got: io::Result<usize>, input: &mut [u8], kept: usize, out: &mut [u8]) -> Turned
     requires { (kept ≤ most_kept) × (most_kept < length input.old) × (input_room input.old ≤ length out.old) }
     ensures { Took (turn_of program (take kept input.old) (given got kept input.old)) input.old out.old result input.new out.new }
 {
-    let n = io::count(got, &input[kept..]);
+    let n = count(got, &input[kept..]);
     let end = kept + n;
     lines::turn(program, &mut input[..end], kept, out)
 }
 
 // Whether a read that answered `got` has failed.
-fn failed(got: isize) -> bool
-    ensures { result ≡ negative got }
+fn failed(got: io::Result<usize>) -> bool
+    ensures { result ≡ is_err got }
 {
-    got < 0
+    matches!(got, Err(_))
 }
 
 // After a turn: how many bytes are kept, whether the input has ended, whether the read was good, and whether all replies were written.
@@ -48,11 +60,11 @@ struct After {
 
 // One turn: a read behind the kept bytes, and a write of the replies. A read that fails is not the end of the input: a line of which only the
 // start was read gets no reply.
-fn one_turn(program: Program, input: &mut [u8], kept: usize, out: &mut [u8]) -> After
+fn one_turn<R: Read, W: Write>(program: Program, from: &mut R, to: &mut W, input: &mut [u8], kept: usize, out: &mut [u8]) -> After
     requires { (kept ≤ most_kept) × (most_kept < length input.old) × (input_room input.old ≤ length out.old) }
     ensures { OneTurn program (take kept input.old) result input.new out.new }
 {
-    let got = libc::read(STDIN_FILENO, &mut input[kept..]);
+    let got = from.read(&mut input[kept..]);
     if failed(got) {
         return After {
             kept,
@@ -63,7 +75,7 @@ fn one_turn(program: Program, input: &mut [u8], kept: usize, out: &mut [u8]) -> 
     }
     let turned = turn_for(program, got, input, kept, out);
     let written = turned.written;
-    let sent = io::write_all(STDOUT_FILENO, &out[..written]);
+    let sent = to.write_all(&out[..written]).is_ok();
     After {
         kept: turned.kept,
         ended: turned.ended,
@@ -74,7 +86,7 @@ fn one_turn(program: Program, input: &mut [u8], kept: usize, out: &mut [u8]) -> 
 
 // When the program stops: how many reads it has made, whether the input has ended, whether the last read was good, and whether all replies
 // were written.
-#[derive(Drop)]
+#[derive(Clone, Copy)]
 pub struct Stopped {
     pub reads: u64,
     pub ended: bool,
@@ -83,14 +95,14 @@ pub struct Stopped {
 }
 
 // Turn after turn, to the end of the input. It stops before that only where a read or a write fails, or after `MOST_READS` reads.
-fn all_turns(program: Program, input: &mut [u8], out: &mut [u8]) -> Stopped
+fn all_turns<R: Read, W: Write>(program: Program, from: &mut R, to: &mut W, input: &mut [u8], out: &mut [u8]) -> Stopped
     requires { (most_kept < length input.old) × (input_room input.old ≤ length out.old) }
     ensures { Ran program result out.new }
 {
     let mut kept = 0;
     let mut reads: u64 = 0;
     loop {
-        let after = one_turn(program, input, kept, out);
+        let after = one_turn(program, from, to, input, kept, out);
         kept = after.kept;
         reads += 1;
         if after.ended || !after.heard || !after.sent || reads == MOST_READS {
@@ -104,6 +116,13 @@ fn all_turns(program: Program, input: &mut [u8], out: &mut [u8]) -> Stopped
     }
 }
 
+// The input's buffer.
+fn buffer() -> [u8; INPUT]
+    ensures { 65536 ≡ length result }
+{
+    [0; INPUT]
+}
+
 // The output's buffer.
 fn room() -> [u8; ROOM]
     ensures { full_room ≡ length result }
@@ -112,21 +131,21 @@ fn room() -> [u8; ROOM]
 }
 
 // Where not every line has its reply, says so on standard error: `unwritten` where a write failed, `unread` where a read did.
-fn tell(stopped: Stopped, unwritten: &[u8], unread: &[u8]) {
+fn tell<E: Write>(stopped: Stopped, errors: &mut E, unwritten: &[u8], unread: &[u8]) {
     if !stopped.sent {
-        io::write_all(STDERR_FILENO, unwritten);
+        let _ = errors.write_all(unwritten);
     } else if !stopped.ended {
-        io::write_all(STDERR_FILENO, unread);
+        let _ = errors.write_all(unread);
     }
 }
 
 // A program's whole session, and the line that is told where it failed.
-pub fn run(program: Program, unwritten: &[u8], unread: &[u8]) -> Stopped
+pub fn run<R: Read, W: Write, E: Write>(program: Program, from: &mut R, to: &mut W, errors: &mut E, unwritten: &[u8], unread: &[u8]) -> Stopped
     ensures { HasRun program result }
 {
-    let mut input = io::large_buffer();
+    let mut input = buffer();
     let mut out = room();
-    let stopped = all_turns(program, &mut input, &mut out);
-    tell(stopped, unwritten, unread);
+    let stopped = all_turns(program, from, to, &mut input, &mut out);
+    tell(stopped, errors, unwritten, unread);
     stopped
 }
