@@ -4,7 +4,7 @@
 use replies::Program;
 use std::process::ExitCode;
 
-// Fails where a read or a write failed, which a line on standard error then says.
+// Where a read or a write fails, a line on standard error says so, and so does the exit status.
 fn main(rt: HostRuntime) -> ExitCode {
     let stopped = sessions::run(
         Program::Identity,
@@ -14,9 +14,5 @@ fn main(rt: HostRuntime) -> ExitCode {
         b"identity: a write to standard output failed: replies are missing\n",
         b"identity: a read from standard input failed: not every line is answered\n",
     );
-    if stopped.sent && stopped.ended {
-        ExitCode::SUCCESS
-    } else {
-        ExitCode::FAILURE
-    }
+    ExitCode::from(sessions::status(stopped))
 }

@@ -32,11 +32,13 @@ pub record Taken (t : Turn) (r : After) (input out : List ℕ) : Type 0 where
   pub count : r.kept ≡ length t.keeps
   pub ended : r.ended ≡ t.ends
 
--- One turn of the program is the session's turn for some bytes that were read. A read that failed is not the end of the input.
+-- One turn of the program is the session's turn for some bytes that were read. A read that failed is not the end of the input. Nobody reads
+-- the replies only where not all were written.
 pub record OneTurn (π : Program) (rest : List ℕ) (r : After) (input out : List ℕ) : Type 0 where
   pub read : List ℕ
   pub taken : r.heard ≡ true → Taken (turn_of π rest read) r input out
   pub unheard : r.heard ≡ false → r.ended ≡ false
+  pub closed : r.closed ≡ true → r.sent ≡ false
 
 -- the most reads that are made
 abbrev pub most_reads : ℕ
@@ -53,6 +55,7 @@ pub record Ran (π : Program) (r : Stopped) (out : List ℕ) : Type 0 where
   pub printed : r.heard ≡ true → Begins out (turn_of π (session π [] before).keeps last).prints
   pub ended : r.heard ≡ true → r.ended ≡ (session π [] (before ++ (last ∷ []))).ends
   pub unheard : r.heard ≡ false → r.ended ≡ false
+  pub closed : r.closed ≡ true → r.sent ≡ false
   pub why : (r.ended ≡ true) ⊎ (r.heard ≡ false) ⊎ (r.sent ≡ false) ⊎ (r.reads ≡ most_reads)
 
 -- the same, of an output that is nobody else's
