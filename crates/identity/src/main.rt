@@ -2,12 +2,17 @@
 #![tactic(auto)]
 
 use replies::Program;
+use std::process::ExitCode;
 
-// A program can't choose its exit status, so the launcher goes by the line on standard error.
-fn main() {
-    sessions::run(
+// Where a read or a write fails, a line on standard error says so, and so does the exit status.
+fn main(rt: HostRuntime) -> ExitCode {
+    let stopped = sessions::run(
         Program::Identity,
+        &mut rt.stdin(),
+        &mut rt.stdout(),
+        &mut rt.stderr(),
         b"identity: a write to standard output failed: replies are missing\n",
         b"identity: a read from standard input failed: not every line is answered\n",
     );
+    ExitCode::from(sessions::status(stopped))
 }

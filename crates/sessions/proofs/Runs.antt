@@ -5,12 +5,11 @@ use mathlib.Core.Logic.{◌⊎◌}
 use mathlib.Core.List.{List, [], ◌∷◌, ◌++◌}
 use mathlib.Core.Bool.{Bool, true, false}
 use native.Mathlib.Omega.{arith}
-use lib.IntN.{ℤ}
 use lib.Dec.{lit<, lit≤}
 use lib.ListN.{length, take, drop, length-append, length-drop}
 use lib.Seq.{take_all}
 use borrow.Rule.Slice.PartMut.{take_put}
-use Rattle.io.specs.Counts.{clamp_len}
+use Rattle.std.specs.Prelude.{Result}
 use Rattle.replies.specs.declared.Program.{Program}
 use Rattle.lines.specs.Lines.{output_of, input_room}
 use Rattle.lines.specs.Turns.{most_kept, turn_of, session, input_of, turn_at, seen, Took}
@@ -20,13 +19,13 @@ use Rattle.lines.proofs.Turns.{on_buffer, few_kept}
 use Rattle.lines.proofs.Sessions.{in_pieces, one_more}
 use Rattle.sessions.specs.declared.After.{After}
 use Rattle.sessions.specs.declared.Stopped.{Stopped}
-use Rattle.sessions.specs.Runs.{given, Taken, OneTurn, most_reads, Ran}
+use Rattle.sessions.specs.Runs.{clamp_len, given, Taken, OneTurn, most_reads, Ran}
 
 true_is_not_false : true ≡ false → ⊥
 true_is_not_false h = let z : ◌≡◌ {A = ℕ} 0 1 = cc in absurd (omega arith)
 
 -- a turn on the bytes that were kept and read is one on the buffer
-module _ (π : Program) (got : ℤ) (n k : ℕ) (buffer out : List ℕ) (count : k ≡ clamp_len got (length (take (length buffer - n) (drop n buffer)))) where
+module _ {E : Type 0} (π : Program) (got : Result ℕ E) (n k : ℕ) (buffer out : List ℕ) (count : k ≡ clamp_len got (length (take (length buffer - n) (drop n buffer)))) where
   all_given : take k (drop n buffer) ≡ given got n buffer
   all_given =
       let e : take (length buffer - n) (drop n buffer) ≡ drop n buffer = take_all (length buffer - n) (drop n buffer) (omega (arith, length-drop n buffer)) in
@@ -39,25 +38,21 @@ module _ (π : Program) (got : ℤ) (n k : ℕ) (buffer out : List ℕ) (count :
   for_given r start out' h room l t = rw all_given at (on_buffer π n k buffer out r start out' h room l t)
 
 -- whatever e the read put behind the first n bytes of l, they stay, and the turn is one for some bytes
-pub for_some : (π : Program) (got : ℤ) (n : ℕ) (l e out : List ℕ) (r : Turned) (sent : Bool) (input' out' : List ℕ) → n ≤ length l
+pub for_some : {E : Type 0} (π : Program) (got : Result ℕ E) (n : ℕ) (l e out : List ℕ) (r : Turned) (sent closed : Bool) (input' out' : List ℕ) → (closed ≡ true → sent ≡ false) → n ≤ length l
     → let buffer = back l n e in
-    Took (turn_of π (take n buffer) (given got n buffer)) buffer out r input' out' → OneTurn π (take n l) (record { kept = r.kept; ended = r.ended; heard = true; sent = sent }) input' out'
-for_some π got n l e out r sent input' out' h t =
+    Took (turn_of π (take n buffer) (given got n buffer)) buffer out r input' out' → OneTurn π (take n l) (record { kept = r.kept; ended = r.ended; heard = true; sent = sent; closed = closed }) input' out'
+for_some π got n l e out r sent closed input' out' z h t =
     let buffer : List ℕ = back l n e in
     let read : List ℕ = given got n buffer in
     let rest : List ℕ = take n l in
     let u = rw (take_put n (length l - n) l e h) at t in
-    let taken : Taken (turn_of π rest read) (record { kept = r.kept; ended = r.ended; heard = true; sent = sent }) input' out' = record {
+    let taken : Taken (turn_of π rest read) (record { kept = r.kept; ended = r.ended; heard = true; sent = sent; closed = closed }) input' out' = record {
       printed = wrote_begins (turn_of π rest read).prints out out' r.written u.printed;
       kept = wrote_begins (turn_of π rest read).keeps buffer input' r.kept u.kept;
       count = omega (arith, u.kept.end);
       ended = u.ended;
     } in
-    record { read = read; taken = λ h. taken; unheard = λ h. absurd (true_is_not_false h) }
-
--- a read that failed
-pub for_none : (π : Program) (rest input out : List ℕ) (kept : ℕ) → OneTurn π rest (record { kept = kept; ended = false; heard = false; sent = true }) input out
-for_none π rest input out kept = record { read = []; taken = λ h. absurd (true_is_not_false (sym h)); unheard = λ h. refl }
+    record { read = read; taken = λ h. taken; unheard = λ h. absurd (true_is_not_false h); closed = z }
 
 -- THE LOOP
 
@@ -91,7 +86,7 @@ module _ (π : Program) (input input' out : List ℕ) (kept reads : ℕ) (g : Go
       }
 
   pub stops : (d.ended ≡ true) ⊎ (d.heard ≡ false) ⊎ (d.sent ≡ false) ⊎ (reads + 1 ≡ most_reads)
-      → Ran π (record { reads = reads + 1; ended = d.ended; heard = d.heard; sent = d.sent }) out
+      → Ran π (record { reads = reads + 1; ended = d.ended; heard = d.heard; sent = d.sent; closed = d.closed }) out
   stops why = record {
     before = g.gave;
     last = t.read;
@@ -100,6 +95,7 @@ module _ (π : Program) (input input' out : List ℕ) (kept reads : ℕ) (g : Go
     printed = λ h. rw (ap (λ x. x.prints) rest_is) at (t.taken h).printed;
     ended = λ h. (t.taken h).ended ∙ ap (λ x. x.ends) rest_is ∙ sym (one_more π g.gave [] t.read g.going).1;
     unheard = t.unheard;
+    closed = t.closed;
     why = why;
   }
 

@@ -1,7 +1,6 @@
--- The turns of a program. Of `read` the toolchain promises that it answers -1, or a number of bytes that the buffer holds; of the bytes it
--- says nothing. So what is said here of a read holds for some bytes: those that it gave.
-use Rattle.std.specs.Prelude.{ℕ, suc, ◌+◌, ◌*◌, ◌-◌, ◌^◌, ◌≡◌, ◌⊎◌, List, [], ◌∷◌, ◌++◌, Bool, true, false, ℤ, pos, negsuc, length, take, drop}
-use Rattle.io.specs.Counts.{clamp_len}
+-- The turns of a program. Of `read` the toolchain promises that it answers an error, or a number of bytes that the buffer holds; of the bytes
+-- it says nothing. So what is said here of a read holds for some bytes: those that it gave.
+use Rattle.std.specs.Prelude.{ℕ, suc, ◌+◌, ◌*◌, ◌-◌, ◌^◌, ◌≡◌, ◌⊎◌, min, List, [], ◌∷◌, ◌++◌, Bool, true, false, Result, Ok, Err, length, take, drop}
 use Rattle.replies.specs.Writing.{reply_room}
 use Rattle.replies.specs.declared.Program.{Program}
 use Rattle.lines.specs.Lines.{growth}
@@ -13,14 +12,14 @@ use Rattle.sessions.specs.declared.Stopped.{Stopped}
 abbrev pub full_room : ℕ
 full_room = growth * 65536 + reply_room
 
--- what a read gave that answered `got`, and put its bytes behind the first n of the buffer
-abbrev pub given : ℤ → ℕ → List ℕ → List ℕ
-given got n buffer = let behind = drop n buffer in take (clamp_len got (length behind)) behind
+-- how many bytes a read gave that answered `got`, where the buffer had room for so many: none, if it failed
+abbrev pub clamp_len : {E : Type 0} → Result ℕ E → ℕ → ℕ
+clamp_len (Ok n) most = min n most
+clamp_len (Err e) most = 0
 
--- the answer of a read that failed
-abbrev pub negative : ℤ → Bool
-negative (pos k) = false
-negative (negsuc k) = true
+-- what a read gave that answered `got`, and put its bytes behind the first n of the buffer
+abbrev pub given : {E : Type 0} → Result ℕ E → ℕ → List ℕ → List ℕ
+given got n buffer = let behind = drop n buffer in take (clamp_len got (length behind)) behind
 
 -- l begins with w
 abbrev pub Begins : List ℕ → List ℕ → Type 0
@@ -33,11 +32,13 @@ pub record Taken (t : Turn) (r : After) (input out : List ℕ) : Type 0 where
   pub count : r.kept ≡ length t.keeps
   pub ended : r.ended ≡ t.ends
 
--- One turn of the program is the session's turn for some bytes that were read. A read that failed is not the end of the input.
+-- One turn of the program is the session's turn for some bytes that were read. A read that failed is not the end of the input. Nobody reads
+-- the replies only where not all were written.
 pub record OneTurn (π : Program) (rest : List ℕ) (r : After) (input out : List ℕ) : Type 0 where
   pub read : List ℕ
   pub taken : r.heard ≡ true → Taken (turn_of π rest read) r input out
   pub unheard : r.heard ≡ false → r.ended ≡ false
+  pub closed : r.closed ≡ true → r.sent ≡ false
 
 -- the most reads that are made
 abbrev pub most_reads : ℕ
@@ -54,6 +55,7 @@ pub record Ran (π : Program) (r : Stopped) (out : List ℕ) : Type 0 where
   pub printed : r.heard ≡ true → Begins out (turn_of π (session π [] before).keeps last).prints
   pub ended : r.heard ≡ true → r.ended ≡ (session π [] (before ++ (last ∷ []))).ends
   pub unheard : r.heard ≡ false → r.ended ≡ false
+  pub closed : r.closed ≡ true → r.sent ≡ false
   pub why : (r.ended ≡ true) ⊎ (r.heard ≡ false) ⊎ (r.sent ≡ false) ⊎ (r.reads ≡ most_reads)
 
 -- the same, of an output that is nobody else's
