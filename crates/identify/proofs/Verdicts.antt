@@ -8,7 +8,6 @@ use native.Mathlib.Omega.{arith}
 use lib.Dec.{T, ltb, eqb}
 use lib.ListN.{length, drop, get_or, drop_of_length-le}
 use borrow.Author.Tests.{eq-eqb, ne_eqb, eqb-true}
-use Rattle.rules.specs.declared.Table.TheVariants.{A}
 use Rattle.rules.specs.Bytes.{all, among, upto, dot, digits_text}
 use Rattle.rules.specs.Grammar.{digit}
 use Rattle.rules.specs.TextNumbers.{is_digit, digits_in}

@@ -10,7 +10,6 @@ use lib.ListN.{length, get_or, replicate}
 use borrow.Author.Tests.{ne_eqb, le-leb, lt-leb}
 use Rattle.numeral.specs.Numeral.{Digits}
 use Rattle.numeral.proofs.Arithmetic.{lt_or_ge}
-use Rattle.rules.specs.Answers.{refused}
 use Rattle.rules.specs.Grammar.{start}
 use Rattle.rules.specs.Coding.{within}
 use Rattle.rules.specs.Raw.{raw_text}

@@ -1,6 +1,6 @@
 -- The turns of a program. Of `read` the toolchain promises that it answers an error, or a number of bytes that the buffer holds; of the bytes
 -- it says nothing. So what is said here of a read holds for some bytes: those that it gave.
-use Rattle.std.specs.Prelude.{ℕ, suc, ◌+◌, ◌*◌, ◌-◌, ◌^◌, ◌≡◌, ◌⊎◌, min, List, [], ◌∷◌, ◌++◌, Bool, true, false, Result, Ok, Err, length, take, drop}
+use Rattle.std.specs.Prelude.{ℕ, suc, ◌+◌, ◌*◌, ◌-◌, ◌^◌, ◌≡◌, ◌⊎◌, min, List, [], ◌∷◌, ◌++◌, true, false, Result, Ok, Err, length, take, drop}
 use Rattle.replies.specs.Writing.{reply_room}
 use Rattle.replies.specs.declared.Program.{Program}
 use Rattle.lines.specs.Lines.{growth}

@@ -1,9 +1,8 @@
-use Rattle.std.proofs.Common.{rules, arith, refl, ◌∙◌, ◌≡◌, ◌∷◌, ◌+◌, ◌≤◌, length, drop, List, ℕ}
+use Rattle.std.proofs.Common.{rules, arith, refl, ◌∙◌, ◌≡◌, ◌∷◌, ◌+◌, ◌≤◌, length, drop, ℕ}
 use mathlib.Core.Option.{some}
-use lib.ListN.{length-set}
 use Rattle.rules.specs.Bytes.{percent}
 use Rattle.rules.specs.TextNumbers.{put, characters_in}
-use Rattle.alphabet.specs.Readers.{counted, Kept, escape_in}
+use Rattle.alphabet.specs.Readers.{escape_in}
 use Rattle.alphabet.proofs.Classes.{plain_class, other_class}
 use Rattle.alphabet.proofs.Steps.{at_plain, at_percent, at_other, at_end, escape_some, escape_none, at_escape, escape_within, no_escape, count_end, count_more}
 use Rattle.alphabet.proofs.Kept.{keep_more, keep_full}

@@ -4,7 +4,6 @@ use mathlib.Core.List.{List}
 use mathlib.Core.Option.{Option, none, some}
 use Prim.Native.Nat.{ℕ}
 use native.Mathlib.Nat.{zero-add}
-use borrow.Author.Rules.{rules}
 use lib.ListN.{drop, length}
 use Rattle.rules.specs.TextNumbers.{characters_in}
 use Rattle.alphabet.specs.Strings.{count_of}

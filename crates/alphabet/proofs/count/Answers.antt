@@ -1,10 +1,10 @@
 use mathlib.Core.Path.{◌≡◌}
-use Prim.Native.Nat.{◌-◌, ◌≤◌, ◌<◌}
+use Prim.Native.Nat.{◌<◌}
 use native.Mathlib.Omega.{arith}
 use borrow.Author.Rules.{rules}
 use lib.ListN.{length}
 use Rattle.alphabet.proofs.Classes.{no_character, some_character}
-use Rattle.alphabet.proofs.Counts.{Counted, counted_none, counted_end, next_zero, next_character, wrong_group, after_zero}
+use Rattle.alphabet.proofs.Counts.{counted_none, counted_end, next_zero, next_character, wrong_group, after_zero}
 use Rattle.alphabet.proofs.count.Goals as goal
 use Rattle.alphabet.proofs.count.Goals.{then-g-ne0+else-n-i+else-class-eq-NONE, else-g-ne0}
 
@@ -29,8 +29,9 @@ loop-i-preserved c =
     let inside : v.i < length turn.args.groups.now = omega (arith, turn.requires, turn.loop-i-test.true) in (
       search rules,
       elim c.if-g-ne0.branch [
-          then-g-ne0+else-n-i+else-class-eq-NONE w ↦ rw w.n-is (next_character _ v.i v.n inside v.invariant.1 w.if-n-i.false (rw (some_character _ _ w.class.ensures w.if-class-eq-NONE.false) tt))
-        | else-g-ne0 w ↦ rw w.n-is (next_zero _ v.i v.n inside v.invariant.1 w.if-g-ne0.false) ],
+        | then-g-ne0+else-n-i+else-class-eq-NONE w ↦ rw w.n-is (next_character _ v.i v.n inside v.invariant.1 w.if-n-i.false (rw (some_character _ _ w.class.ensures w.if-class-eq-NONE.false) tt))
+        | else-g-ne0 w ↦ rw w.n-is (next_zero _ v.i v.n inside v.invariant.1 w.if-g-ne0.false)
+      ],
     )
 
 pub returns : goal.returns

@@ -1,12 +1,6 @@
 -- The invariant: the first i groups are n characters and then zeros.
-use mathlib.Core.Path.{◌≡◌}
-use mathlib.Core.Logic.{⊎_elim}
-use Prim.Native.Nat.{◌-◌, ◌≤◌, ◌<◌}
-use native.Mathlib.Omega.{arith}
-use borrow.Author.Rules.{rules}
-use lib.ListN.{length}
-use Rattle.alphabet.proofs.Classes.{no_character, some_character}
-use Rattle.alphabet.proofs.Counts.{Counted, counted_none, counted_end, next_zero, next_character, wrong_group, after_zero}
+use Prim.Native.Nat.{◌-◌, ◌≤◌}
+use Rattle.alphabet.proofs.Counts.{Counted}
 use Rattle.alphabet.proofs.count.Given as goal
 
 abbrev pub invariant-loop-i : goal.invariant-loop-i

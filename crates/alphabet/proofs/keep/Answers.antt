@@ -1,6 +1,5 @@
 -- Past the end a store changes nothing.
 use mathlib.Core.Path.{sym}
-use borrow.Author.Rules.{rules}
 use lib.Seq.{set_out}
 use Rattle.alphabet.proofs.keep.Goals as goal
 

@@ -1,5 +1,4 @@
 -- What the readers counted and kept is what a caller is told.
-use borrow.Author.Rules.{rules}
 use lib.ListN.{drop}
 use Rattle.rules.specs.TextNumbers.{characters_in}
 use Rattle.alphabet.proofs.Kept.{read_right, read_wrong}

@@ -1,10 +1,6 @@
-use mathlib.Core.Path.{◌≡◌, ◌∙◌}
-use Prim.Native.Nat.{◌-◌, ◌≤◌}
+use mathlib.Core.Path.{◌∙◌}
 use native.Mathlib.Omega.{arith}
 use borrow.Author.Rules.{rules}
-use lib.ListN.{length, drop}
-use Rattle.rules.specs.TextNumbers.{characters_in}
-use Rattle.alphabet.specs.Readers.{counted}
 use Rattle.alphabet.proofs.Steps.{count_end}
 use Rattle.alphabet.proofs.Widths.{Width, width_is, width_counted}
 use Rattle.alphabet.proofs.rest.Goals as goal

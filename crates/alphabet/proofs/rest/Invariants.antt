@@ -1,13 +1,9 @@
 -- The invariant: what is counted from i on, with m counted already, is what is counted from `at` on.
-use mathlib.Core.Path.{◌≡◌, ◌∙◌}
+use mathlib.Core.Path.{◌≡◌}
 use Prim.Native.Nat.{◌-◌, ◌≤◌}
-use native.Mathlib.Omega.{arith}
-use borrow.Author.Rules.{rules}
 use lib.ListN.{length, drop}
 use Rattle.rules.specs.TextNumbers.{characters_in}
 use Rattle.alphabet.specs.Readers.{counted}
-use Rattle.alphabet.proofs.Steps.{count_end}
-use Rattle.alphabet.proofs.Widths.{Width, width_is, width_counted}
 use Rattle.alphabet.proofs.rest.Given as goal
 
 abbrev pub invariant-loop-i : goal.invariant-loop-i

@@ -1,11 +1,9 @@
 use mathlib.Core.Path.{◌≡◌, ◌∙◌}
-use Prim.Native.Nat.{◌+◌, ◌*◌, ◌-◌, ◌≤◌, ◌<◌}
+use Prim.Native.Nat.{◌<◌}
 use native.Mathlib.Omega.{arith}
 use borrow.Author.Rules.{rules}
-use lib.ListN.{length, take, get_or}
-use Rattle.numeral.specs.Numeral.{splice}
+use lib.ListN.{length, get_or}
 use Rattle.numeral.proofs.Splices.{splice_nil}
-use Rattle.rules.specs.Characters.{string_text}
 use Rattle.alphabet.proofs.Writes.{spelled_length, next_end, next_written}
 use Rattle.alphabet.proofs.write.Goals as goal
 

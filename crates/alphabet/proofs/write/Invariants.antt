@@ -1,13 +1,9 @@
 -- The invariant: the text of the first j characters stands from `at` on, and ends at p.
-use mathlib.Core.Path.{◌≡◌, ◌∙◌}
-use Prim.Native.Nat.{◌+◌, ◌*◌, ◌-◌, ◌≤◌, ◌<◌}
-use native.Mathlib.Omega.{arith}
-use borrow.Author.Rules.{rules}
-use lib.ListN.{length, take, get_or}
+use mathlib.Core.Path.{◌≡◌}
+use Prim.Native.Nat.{◌+◌, ◌*◌, ◌-◌, ◌≤◌}
+use lib.ListN.{length, take}
 use Rattle.numeral.specs.Numeral.{splice}
-use Rattle.numeral.proofs.Splices.{splice_nil}
 use Rattle.rules.specs.Characters.{string_text}
-use Rattle.alphabet.proofs.Writes.{spelled_length, next_end, next_written}
 use Rattle.alphabet.proofs.write.Given as goal
 
 abbrev pub invariant-loop-j : goal.invariant-loop-j

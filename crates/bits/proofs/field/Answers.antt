@@ -1,8 +1,6 @@
 use mathlib.Core.Path.{◌≡◌, ◌∙◌}
-use Prim.Native.Nat.{◌+◌, ◌-◌, ◌%◌, ◌≤◌, min}
+use Prim.Native.Nat.{◌+◌, ◌-◌, ◌%◌}
 use native.Mathlib.Omega.{arith}
-use borrow.Author.Rules.{rules}
-use Rattle.bits.specs.Bits.{field_at}
 use Rattle.bits.proofs.Pieces.{field_next, field_next_lt}
 use Rattle.bits.proofs.field.Goals as goal
 

@@ -1,10 +1,7 @@
 -- The invariant: v is the number in the bits that are done, and a byte begins behind them unless all are done. The measure is the bits left.
-use mathlib.Core.Path.{◌≡◌, ◌∙◌}
+use mathlib.Core.Path.{◌≡◌}
 use Prim.Native.Nat.{◌+◌, ◌-◌, ◌%◌, ◌≤◌, min}
-use native.Mathlib.Omega.{arith}
-use borrow.Author.Rules.{rules}
 use Rattle.bits.specs.Bits.{field_at}
-use Rattle.bits.proofs.Pieces.{field_next, field_next_lt}
 use Rattle.bits.proofs.field.Given as goal
 
 abbrev pub invariant-loop-done : goal.invariant-loop-done

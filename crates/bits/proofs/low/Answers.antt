@@ -6,7 +6,6 @@ use lib.Dec.{lit<}
 use lib.Pow.{shl_exact, pow_pos}
 use lib.Bits.{and_mask}
 use native.Mathlib.Nat.{one-mul}
-use borrow.Author.Rules.{rules}
 use Rattle.bits.proofs.low.Goals as goal
 
 power : (c : goal.Start) → 1 * 2 ^ c.args.n % 2 ^ 64 ≡ 2 ^ c.args.n

@@ -3,7 +3,6 @@ use mathlib.Core.Path.{sym, ◌∙◌}
 use Prim.Native.Nat.{◌/◌}
 use native.Mathlib.Omega.{arith}
 use Rattle.bits.proofs.Pieces.{field_none, piece_is}
-use borrow.Author.Rules.{rules}
 use Rattle.bits.proofs.piece.Goals as goal
 
 pub returns-then-n-eq0 : goal.returns-then-n-eq0

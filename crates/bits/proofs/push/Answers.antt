@@ -1,7 +1,6 @@
 -- The bits that wait and the new ones are one number (`join`), whose whole bytes are stored and whose last bits wait (`pushed`).
 use Prim.Native.Nat.{◌+◌}
 use native.Mathlib.Omega.{arith}
-use borrow.Author.Rules.{rules}
 use Rattle.bits.proofs.Pushes.{join, join_lt, pushed}
 use Rattle.bits.proofs.push.Goals as goal
 

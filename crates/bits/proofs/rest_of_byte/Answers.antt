@@ -8,7 +8,6 @@ use lib.Arith.{digits_div}
 use lib.Dec.{lit<}
 use lib.Pow.{ones_split, ones_lt}
 use lib.Bits.{bit_and, and_mask}
-use borrow.Author.Rules.{rules}
 use Rattle.bits.proofs.Pieces.{rest_is}
 use Rattle.bits.proofs.rest_of_byte.Goals as goal
 

@@ -1,7 +1,6 @@
 -- Number by number; the place and W fit 16 bits.
 use mathlib.Core.Path.{sym, ap}
 use native.Mathlib.Omega.{arith}
-use borrow.Author.Rules.{rules}
 use Rattle.codec.specs.Answers.{number_of, place_of, words_of, length_of}
 use Rattle.capi.proofs.in_numbers.Goals as goal
 

@@ -1,6 +1,5 @@
 -- `tagcodec_identity_to_tag` meets its contract: the call's answer, in numbers.
 use native.Mathlib.Omega.{arith}
-use borrow.Author.Rules.{rules}
 use Rattle.identities.proofs.Places.{tag_place, words_zero}
 use Rattle.capi.proofs.Replying.{same, small}
 use Rattle.capi.proofs.tagcodec_identity_to_tag.Goals as goal

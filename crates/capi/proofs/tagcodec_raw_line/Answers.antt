@@ -1,6 +1,5 @@
 -- `tagcodec_raw_line` meets its contract: the codec's answer, in numbers.
 use mathlib.Core.List.{[]}
-use borrow.Author.Rules.{rules}
 use Rattle.rules.proofs.Places.{places_fit, words_fit}
 use Rattle.capi.proofs.Replying.{same, small}
 use Rattle.capi.proofs.tagcodec_raw_line.Goals as goal

@@ -1,6 +1,5 @@
 -- `tagcodec_screen` meets its contract: the codec's line, named by its text and its length.
 use native.Mathlib.Omega.{arith}
-use borrow.Author.Rules.{rules}
 use Rattle.capi.proofs.Replying.{past, of_tag_lem, of_raw}
 use Rattle.capi.proofs.tagcodec_screen.Goals as goal
 

@@ -3,8 +3,6 @@ use Prim.Native.Nat.{ℕ}
 use mathlib.Core.Path.{◌≡◌, sym, ap, ◌∙◌}
 use native.Mathlib.Omega.{arith}
 use mathlib.Core.List.{List}
-use borrow.Author.Rules.{rules}
-use lib.ListN.{length}
 use Rattle.rules.specs.Answers.{Answer, taken, ◌>>=◌}
 use Rattle.rules.specs.Grammar.{Tag, text_of}
 use Rattle.rules.specs.Coding.{word_count}
@@ -34,11 +32,9 @@ returns-then-number-ne0 c =
     refuses text_room x.out.now c.if-out-lt-TEXT_ROOM.false _ _ (shown b (tag_of_bank b)) (ap (shown b) e)
 
 -- the tag that was read, from the place where it is
-tag : (c : Else-number-ne0) → let r = c in
-    let b = c.args.bank.now in
+tag : (c : Else-number-ne0) → let b = c.args.bank.now in
     (τ : Tag) × (tag_of_bank b ≡ taken τ) × RecordIs c.read-reading.result.tag τ
 tag c =
-    let r = c in
     let b = c.args.bank.now in
     read_taken (bank_rules b) (Shown b) (λ τ h. h.fits) (tag_of_bank b) (bank_reads b) c.read-reading.result c.read-reading.ensures c.if-number-ne0.false
 

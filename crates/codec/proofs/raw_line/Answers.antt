@@ -1,6 +1,5 @@
 -- `raw_line` meets its contract: its tests are rule 1, and the rules 9 and 10 of the bank's words.
 use mathlib.Core.Path.{◌≡◌}
-use borrow.Author.Rules.{rules}
 use Rattle.rules.specs.Answers.{taken}
 use Rattle.rules.specs.BankNumbers.{words_in}
 use Rattle.rules.specs.Raw.{raw_text}
@@ -26,9 +25,8 @@ returns-then-control-ne0 c =
     refuses text_room x.out.now c.if-out-lt-TEXT_ROOM.false c.words-control.result.number c.words-control.result.place (raw_in b) (raw_refused b c.words-control.result.number c.words-control.result.place e)
 
 -- the words are there
-there : (c : Else-control-ne0) → let w = c in words_in c.args.bank.now ≡ taken c.words-control.result.words
+there : (c : Else-control-ne0) → words_in c.args.bank.now ≡ taken c.words-control.result.words
 there c =
-    let w = c in
     let b = c.args.bank.now in
     is_taken_lem _ _ (words_in b) (words_reads b) c.words-control.result c.words-control.ensures c.if-control-ne0.false
 

@@ -1,5 +1,4 @@
 -- `screen` meets its contract: each answer rewrites the definition's tests by those that led to it.
-use borrow.Author.Rules.{rules}
 use borrow.Author.Tests.{eq-eqb, ne_eqb, le-leb, lt-leb}
 use Rattle.rules.specs.Screen.{screen}
 use Rattle.codec.proofs.screen.Goals as goal

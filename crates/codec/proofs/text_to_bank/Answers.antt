@@ -1,7 +1,6 @@
 -- `text_to_bank` meets its contract: 21 comes before the text is read, the reading is the rules', 22 comes behind it, and what it gives is written.
-use mathlib.Core.Path.{◌≡◌, sym, ap, ◌∙◌}
-use borrow.Author.Rules.{rules}
-use Rattle.rules.specs.Answers.{refused, taken}
+use mathlib.Core.Path.{◌≡◌, ap, ◌∙◌}
+use Rattle.rules.specs.Answers.{taken}
 use Rattle.rules.specs.Grammar.{Tag, TagText}
 use Rattle.rules.specs.Coding.{bank_of, EnoughWords}
 use Rattle.rules.specs.Conditions.{text_rules}

@@ -1,7 +1,6 @@
 -- Each answer is the rules', by the tests that led there; the least is the scheme's count.
 use mathlib.Core.Path.{◌≡◌, sym, ap, ◌∙◌}
 use native.Mathlib.Omega.{arith}
-use borrow.Author.Rules.{rules}
 use Rattle.rules.specs.Schemes.{words}
 use Rattle.codec.proofs.AskedAnswers.{smallest, none, itself}
 use Rattle.codec.proofs.words_for.Goals as goal

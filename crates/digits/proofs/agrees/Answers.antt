@@ -1,8 +1,5 @@
-use Prim.Native.Nat.{◌-◌, ◌≤◌}
-use mathlib.Core.Path.{◌≡◌, refl, sym, ap, ◌∙◌}
-use lib.ListN.{length, drop}
+use mathlib.Core.Path.{refl, sym, ap, ◌∙◌}
 use borrow.Author.Rules.{rules}
-use Rattle.rules.specs.TextNumbers.{after}
 use Rattle.digits.specs.Starts.{begun}
 use Rattle.digits.proofs.Starts.{agrees, differs, agreed}
 use Rattle.digits.proofs.agrees.Goals as goal

@@ -1,11 +1,8 @@
 -- The invariant: the bytes before i agree, so the answer is that of the rest.
 use Prim.Native.Nat.{◌-◌, ◌≤◌}
-use mathlib.Core.Path.{◌≡◌, refl, sym, ap, ◌∙◌}
+use mathlib.Core.Path.{◌≡◌}
 use lib.ListN.{length, drop}
-use borrow.Author.Rules.{rules}
 use Rattle.rules.specs.TextNumbers.{after}
-use Rattle.digits.specs.Starts.{begun}
-use Rattle.digits.proofs.Starts.{agrees, differs, agreed}
 use Rattle.digits.proofs.agrees.Given as goal
 
 abbrev pub invariant-loop-i : goal.invariant-loop-i

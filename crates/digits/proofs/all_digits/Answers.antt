@@ -1,12 +1,6 @@
-use Prim.Native.Nat.{ℕ, ◌-◌, ◌≤◌}
-use mathlib.Core.Path.{◌≡◌, refl, sym, ◌∙◌}
-use mathlib.Core.List.{List}
-use mathlib.Core.Bool.{◌&&◌}
+use mathlib.Core.Path.{refl, sym, ◌∙◌}
 use native.Mathlib.Omega.{arith}
-use lib.Dec.{eqb}
-use lib.ListN.{length, drop}
 use borrow.Author.Rules.{rules}
-use Rattle.rules.specs.Bytes.{all}
 use Rattle.rules.specs.TextNumbers.{is_digit}
 use Rattle.digits.proofs.Alls.{passed_still, passed_worse, passed_all}
 use Rattle.digits.proofs.all_digits.Goals as goal
@@ -18,10 +12,10 @@ loop-i-init c = (search rules, search rules, refl)
 pub loop-i-preserved : goal.loop-i-preserved
 loop-i-preserved c =
     let w = c.not_digit-w in
-    let a = c in
     elim c.if-wrong-w.branch [
-      then-wrong-w t ↦ (search rules, search rules, rw t.wrong-is (passed_worse is_digit c.args.text.now _ a.loop-i.i a.loop-i.wrong w.result (omega arith) a.loop-i.invariant.2 w.ensures t.if-wrong-w.true))
-    | else-wrong-w t ↦ (search rules, search rules, rw t.wrong-is (passed_still is_digit c.args.text.now _ a.loop-i.i a.loop-i.wrong w.result (omega arith) a.loop-i.invariant.2 w.ensures t.if-wrong-w.false)) ]
+      | then-wrong-w t ↦ (search rules, search rules, rw t.wrong-is (passed_worse is_digit c.args.text.now _ c.loop-i.i c.loop-i.wrong w.result (omega arith) c.loop-i.invariant.2 w.ensures t.if-wrong-w.true))
+      | else-wrong-w t ↦ (search rules, search rules, rw t.wrong-is (passed_still is_digit c.args.text.now _ c.loop-i.i c.loop-i.wrong w.result (omega arith) c.loop-i.invariant.2 w.ensures t.if-wrong-w.false))
+    ]
 
 pub returns : goal.returns
 returns c =

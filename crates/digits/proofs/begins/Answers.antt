@@ -1,11 +1,8 @@
-use Prim.Native.Nat.{◌-◌, ◌≤◌}
 use mathlib.Core.Path.{◌≡◌, refl, sym, ap, ◌∙◌}
 use native.Mathlib.Omega.{arith}
-use lib.ListN.{length, take, drop}
-use borrow.Author.Rules.{rules}
+use lib.ListN.{take, drop}
 use Rattle.numeral.specs.Numeral.{value}
 use Rattle.numeral.proofs.Values.{digits_of_lem}
-use Rattle.rules.specs.TextNumbers.{after}
 use Rattle.digits.specs.Starts.{begun}
 use Rattle.digits.proofs.Fours.{same_four}
 use Rattle.digits.proofs.Starts.{all_agree, some_differ, too_short}

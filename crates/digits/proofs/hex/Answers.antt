@@ -1,6 +1,5 @@
 -- A digit below ten, and one from ten on.
 use mathlib.Core.Path.{sym}
-use borrow.Author.Rules.{rules}
 use Rattle.digits.proofs.Texts.{hex_digit_lem, hex_letter}
 use Rattle.digits.proofs.hex.Goals as goal
 

@@ -1,6 +1,5 @@
 -- Both answers of the test.
 use mathlib.Core.Path.{sym, ◌∙◌}
-use borrow.Author.Rules.{rules}
 use Rattle.digits.proofs.not_digit.Goals as goal
 
 pub returns-then-is_digit : goal.returns-then-is_digit

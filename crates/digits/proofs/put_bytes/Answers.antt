@@ -1,9 +1,7 @@
-use mathlib.Core.Path.{◌≡◌, refl, sym}
-use Prim.Native.Nat.{◌-◌, ◌≤◌}
-use lib.ListN.{length, take, length-set}
+use mathlib.Core.Path.{refl, sym}
+use lib.ListN.{length-set}
 use lib.Seq.{take_all}
 use borrow.Author.Rules.{rules}
-use Rattle.numeral.specs.Numeral.{splice}
 use Rattle.numeral.proofs.Splices.{splice_nil}
 use Rattle.digits.proofs.Copies.{copy_more}
 use Rattle.digits.proofs.put_bytes.Goals as goal

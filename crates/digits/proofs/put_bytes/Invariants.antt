@@ -1,12 +1,8 @@
 -- The invariant: the first i bytes are copied.
-use mathlib.Core.Path.{◌≡◌, refl, sym}
+use mathlib.Core.Path.{◌≡◌}
 use Prim.Native.Nat.{◌-◌, ◌≤◌}
-use lib.ListN.{length, take, length-set}
-use lib.Seq.{take_all}
-use borrow.Author.Rules.{rules}
+use lib.ListN.{length, take}
 use Rattle.numeral.specs.Numeral.{splice}
-use Rattle.numeral.proofs.Splices.{splice_nil}
-use Rattle.digits.proofs.Copies.{copy_more}
 use Rattle.digits.proofs.put_bytes.Given as goal
 
 abbrev pub invariant-loop-i : goal.invariant-loop-i

@@ -1,12 +1,8 @@
 use mathlib.Core.Path.{◌≡◌, sym, ◌∙◌}
-use Prim.Native.Nat.{◌≤◌}
 use native.Mathlib.Omega.{arith}
-use lib.ListN.{length, length-set}
-use borrow.Author.Rules.{rules}
-use Rattle.numeral.specs.Numeral.{numeral, splice}
+use lib.ListN.{length-set}
 use Rattle.numeral.proofs.Values.{numeral_nil}
 use Rattle.numeral.proofs.Splices.{splice_nil}
-use Rattle.rules.specs.Bytes.{digits_text}
 use Rattle.digits.proofs.Texts.{digit_more}
 use Rattle.digits.proofs.put_digits.Goals as goal
 

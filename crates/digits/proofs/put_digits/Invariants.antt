@@ -1,14 +1,9 @@
 -- The invariant: i digits are left to write, of the value `rest`; once they are written, the whole text is.
-use mathlib.Core.Path.{◌≡◌, sym, ◌∙◌}
+use mathlib.Core.Path.{◌≡◌}
 use Prim.Native.Nat.{◌≤◌}
-use native.Mathlib.Omega.{arith}
-use lib.ListN.{length, length-set}
-use borrow.Author.Rules.{rules}
+use lib.ListN.{length}
 use Rattle.numeral.specs.Numeral.{numeral, splice}
-use Rattle.numeral.proofs.Values.{numeral_nil}
-use Rattle.numeral.proofs.Splices.{splice_nil}
 use Rattle.rules.specs.Bytes.{digits_text}
-use Rattle.digits.proofs.Texts.{digit_more}
 use Rattle.digits.proofs.put_digits.Given as goal
 
 abbrev pub invariant-loop-i : goal.invariant-loop-i

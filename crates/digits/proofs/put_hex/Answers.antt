@@ -1,12 +1,9 @@
 use native.Mathlib.Omega.{arith}
-use mathlib.Core.Path.{◌≡◌, sym}
-use Prim.Native.Nat.{◌+◌, ◌-◌, ◌*◌, ◌≤◌}
-use lib.ListN.{length, take, length-set}
+use mathlib.Core.Path.{sym}
+use lib.ListN.{length-set}
 use lib.Seq.{take_all}
 use borrow.Author.Rules.{rules}
-use Rattle.numeral.specs.Numeral.{splice}
 use Rattle.numeral.proofs.Splices.{splice_nil}
-use Rattle.rules.specs.Bytes.{hex_text}
 use Rattle.digits.proofs.Pairs.{put_pair}
 use Rattle.digits.proofs.put_hex.Goals as goal
 

@@ -1,14 +1,9 @@
 -- The invariant: the first i bytes are written, and their text ends at index p.
-use native.Mathlib.Omega.{arith}
-use mathlib.Core.Path.{◌≡◌, sym}
+use mathlib.Core.Path.{◌≡◌}
 use Prim.Native.Nat.{◌+◌, ◌-◌, ◌*◌, ◌≤◌}
-use lib.ListN.{length, take, length-set}
-use lib.Seq.{take_all}
-use borrow.Author.Rules.{rules}
+use lib.ListN.{length, take}
 use Rattle.numeral.specs.Numeral.{splice}
-use Rattle.numeral.proofs.Splices.{splice_nil}
 use Rattle.rules.specs.Bytes.{hex_text}
-use Rattle.digits.proofs.Pairs.{put_pair}
 use Rattle.digits.proofs.put_hex.Given as goal
 
 abbrev pub invariant-loop-i : goal.invariant-loop-i

@@ -1,16 +1,14 @@
 use native.Mathlib.Omega.{arith}
 use mathlib.Core.Path.{◌≡◌, sym, ◌∙◌}
-use mathlib.Core.Logic.{⊎_elim}
 use mathlib.Core.Bool.{true}
-use Prim.Native.Nat.{◌+◌, ◌-◌, ◌^◌, ◌≤◌, ◌<◌}
+use Prim.Native.Nat.{◌+◌, ◌^◌, ◌≤◌, ◌<◌}
 use Prim.Native.Char.{code}
 use lib.ListN.{length, drop, get_or, length-drop}
 use lib.Seq.{get_or-drop}
 use borrow.Author.Rules.{rules}
-use borrow.Author.Tests.{not-true, not-false}
 use Rattle.rules.specs.TextNumbers.{is_digit}
 use Rattle.digits.specs.Digits.{leading_digits}
-use Rattle.digits.proofs.Runs.{leading, digit_is, run_most, run_within, run_stops, Passed, passed_none, passed_more, passed_lt, passed_all}
+use Rattle.digits.proofs.Runs.{leading, digit_is, run_most, run_within, run_stops, passed_none, passed_more, passed_lt, passed_all}
 use Rattle.digits.proofs.run_at.Goals as goal
 use Rattle.digits.proofs.run_at.Goals.{then-rest-lt-MOST_DIGITS, else-rest-lt-MOST_DIGITS, else-loop-n-test, then-loop-n-test+then-not-is_digit}
 
@@ -65,8 +63,9 @@ passed c =
     let s = c.before.before.before.before in
     let r = leading 19 (drop s.args.at s.args.text.now) in
     elim c.loop-n-test.branch [
-      else-loop-n-test w ↦ omega arith
-    | then-loop-n-test+then-not-is_digit w ↦ omega (arith, run_stops r a.n a.invariant.3.within (rw get_or-drop (sym w.is_digit.ensures ∙ w.if-not-is_digit.true))) ]
+      | else-loop-n-test w ↦ omega arith
+      | then-loop-n-test+then-not-is_digit w ↦ omega (arith, run_stops r a.n a.invariant.3.within (rw get_or-drop (sym w.is_digit.ensures ∙ w.if-not-is_digit.true)))
+    ]
 
 pub returns : goal.returns
 returns c =

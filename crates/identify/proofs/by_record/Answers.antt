@@ -17,7 +17,6 @@ use Rattle.identities.specs.Calls.{tag_to_identity}
 use Rattle.identify.specs.Words.{body_at}
 use Rattle.identify.proofs.TagLines.{body_is}
 use Rattle.identify.proofs.DirectTags.{Straight, identity_put}
-use borrow.Author.Rules.{rules}
 use Rattle.identify.proofs.by_record.Goals as goal
 use Rattle.identify.proofs.by_record.Goals.{After-body_at-at, Else-number-ne0}
 
@@ -29,11 +28,9 @@ returns-then-number-ne0 c =
     refuses text_room a.out.now c.requires _ _ (tag_of_text a.text.now >>= λ τ. taken (0, identity_text (identity_of τ))) (ap (◌>>= λ τ. taken (0, identity_text (identity_of τ))) e)
 
 -- the tag that was read, from the place where it is
-tag : (c : Else-number-ne0) → let r = c in
-    let t = c.args.text.now in
+tag : (c : Else-number-ne0) → let t = c.args.text.now in
     (τ : Tag) × (tag_of_text t ≡ taken τ) × RecordIs c.read-reading.result.tag τ
 tag c =
-    let r = c in
     let t = c.args.text.now in
     read_taken (text_rules t) (TagText t) (λ τ h. h.fits) (tag_of_text t) (tag_reads t) c.read-reading.result c.read-reading.ensures c.if-number-ne0.false
 

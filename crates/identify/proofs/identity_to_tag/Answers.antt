@@ -11,7 +11,6 @@ use Rattle.identities.specs.Numbers.{identified, identity_in, tag_of_identity}
 use Rattle.identities.specs.Calls.{identity_to_tag}
 use Rattle.identify.specs.Words.{of_family}
 use Rattle.identify.proofs.Answered.{no_family, family_found, to_tag, not_named}
-use borrow.Author.Rules.{rules}
 use Rattle.identify.proofs.identity_to_tag.Goals as goal
 use Rattle.identify.proofs.identity_to_tag.Goals.{In-Is}
 
@@ -26,7 +25,6 @@ found : (c : In-Is) → let t = c.args.text.now in
     let n = c.in-Is.at in
     (n ≤ length t) × (identity_in t ≡ identified (record { family = c.in-Is.family; rest = drop n t }))
 found c =
-    let f = c in
     family_found c.args.text.now _ _ (sym c.in-Is.is ∙ c.family_in.ensures)
 
 pub slice_bounds-of_family-count : goal.slice_bounds-of_family-count

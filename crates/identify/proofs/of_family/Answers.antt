@@ -4,7 +4,6 @@ use mathlib.Core.Path.{◌≡◌, sym, ◌∙◌}
 use mathlib.Core.Bool.{true}
 use mathlib.Core.Option.{none, some}
 use native.Mathlib.Omega.{arith}
-use borrow.Author.Rules.{rules}
 use Rattle.rules.specs.Grammar.{Tag, TagText}
 use Rattle.digits.proofs.Joins.{from_start}
 use Rattle.identities.specs.Families.{most_filter}
@@ -26,7 +25,6 @@ returns-in-WrongText c =
 none_held : (c : In-Unheld) → let a = c.args in
     (is_body a.family a.body.now ≡ true) × (holder a.family a.body.now ≡ none)
 none_held c =
-    let j = c in
     let a = c.args in
     unheld_is (is_body a.family a.body.now) (holder a.family a.body.now) (sym c.in-Unheld.is ∙ c.judge.ensures)
 
@@ -47,7 +45,6 @@ returns-else-most_filter-filter c =
 is_held : (c : In-By) → let a = c.args in
     (is_body a.family a.body.now ≡ true) × (holder a.family a.body.now ≡ some c.in-By.s)
 is_held c =
-    let j = c in
     let a = c.args in
     by_is (is_body a.family a.body.now) (holder a.family a.body.now) c.in-By.s (sym c.in-By.is ∙ c.judge.ensures)
 

@@ -5,7 +5,6 @@ use lib.ListN.{length, length-drop}
 use Rattle.digits.proofs.Joins.{join}
 use Rattle.parts.proofs.Controls.{from_index}
 use Rattle.identify.proofs.Names.{start_size}
-use borrow.Author.Rules.{rules}
 use Rattle.identify.proofs.put_identity.Goals as goal
 
 pub put_bytes-requires : goal.put_bytes-requires

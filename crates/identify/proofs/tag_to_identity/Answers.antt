@@ -8,7 +8,6 @@ use Rattle.identities.specs.Grammar.{identity_text}
 use Rattle.identities.specs.OfTags.{identity_of}
 use Rattle.identities.specs.Calls.{tag_to_identity}
 use Rattle.identify.proofs.DirectTags.{Straight, straight, identity_put}
-use borrow.Author.Rules.{rules}
 use Rattle.identify.proofs.tag_to_identity.Goals as goal
 use Rattle.identify.proofs.tag_to_identity.Goals.{In-Direct}
 
@@ -21,7 +20,6 @@ returns-then-out-lt-TEXT_ROOM c =
 -- the tag, from the place where its scheme is known
 found : (c : In-Direct) → Straight c.args.text.now c.in-Direct.s c.in-Direct.at
 found c =
-    let d = c in
     straight c.args.text.now _ _ (sym c.in-Direct.is ∙ c.direct.ensures)
 
 pub put_identity-requires : goal.put_identity-requires

@@ -1,12 +1,8 @@
-use Prim.Native.Nat.{◌+◌, ◌-◌}
-use mathlib.Core.Path.{◌≡◌}
+use Prim.Native.Nat.{◌+◌}
 use native.Mathlib.Omega.{arith}
-use lib.ListN.{length, drop}
-use borrow.Author.Rules.{rules}
+use lib.ListN.{length}
 use borrow.Author.Tests.{le-leb}
-use Rattle.rules.specs.Bytes.{upto}
 use Rattle.replies.specs.Writing.{reply_room}
-use Rattle.lines.specs.Lines.{feed}
 use Rattle.replies.proofs.Pieces.{part, back}
 use Rattle.lines.proofs.Passes.{Passed, passed_none, has_room, passed_more, passed_all}
 use Rattle.lines.proofs.answer_ended.Goals as goal
@@ -17,12 +13,8 @@ loop-end-init c =
     (passed_none c.args.program c.args.input.now c.args.out.now c.requires, c.line_end-end.ensures)
 
 -- one more line is answered
-next : (c : After-reply-written) → let a = c in
-    let s = c in
-    Passed c.args.program c.args.input.now c.args.out.now (back c.loop-end.out c.loop-end.written c.reply-written.new.out) (c.loop-end.end + 1) (c.loop-end.written + c.reply-written.result)
+next : (c : After-reply-written) → Passed c.args.program c.args.input.now c.args.out.now (back c.loop-end.out c.loop-end.written c.reply-written.new.out) (c.loop-end.end + 1) (c.loop-end.written + c.reply-written.result)
 next c =
-    let a = c in
-    let s = c in
     let v = c.loop-end in
     let room = has_room c.args.program c.args.input.now c.args.out.now v.out v.read v.written v.invariant.0 in
     passed_more c.args.program c.args.input.now c.args.out.now v.out v.read v.written v.invariant.0 v.end v.invariant.1 c.loop-end-test.true

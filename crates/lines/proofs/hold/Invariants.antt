@@ -1,13 +1,9 @@
 -- The invariant: the first n bytes are moved. What is read next stands where it stood.
 use Prim.Native.Nat.{◌-◌, ◌≤◌}
-use mathlib.Core.Path.{◌≡◌, refl, sym}
-use native.Mathlib.Omega.{arith}
-use lib.ListN.{length, take, drop, length-set}
-use borrow.Author.Rules.{rules}
+use mathlib.Core.Path.{◌≡◌}
+use lib.ListN.{length, take, drop}
 use Rattle.numeral.specs.Numeral.{splice}
-use Rattle.numeral.proofs.Splices.{splice_nil}
 use Rattle.lines.specs.Turns.{most_kept}
-use Rattle.lines.proofs.Holds.{moved, moved_all}
 use Rattle.lines.proofs.hold.Given as goal
 
 abbrev pub invariant-loop-n : goal.invariant-loop-n

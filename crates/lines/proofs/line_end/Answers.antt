@@ -1,10 +1,5 @@
-use Prim.Native.Nat.{◌+◌, ◌-◌}
-use mathlib.Core.Path.{◌≡◌, refl}
+use mathlib.Core.Path.{refl}
 use native.Mathlib.Omega.{arith}
-use lib.ListN.{length, drop}
-use borrow.Author.Rules.{rules}
-use Rattle.rules.specs.Bytes.{upto}
-use Rattle.lines.specs.Lines.{feed}
 use Rattle.lines.proofs.Splits.{end_past, end_here, end_later}
 use Rattle.lines.proofs.line_end.Goals as goal
 

@@ -1,12 +1,9 @@
 -- The invariant: the line ends where it ends from here on.
 use Prim.Native.Nat.{◌+◌, ◌-◌}
-use mathlib.Core.Path.{◌≡◌, refl}
-use native.Mathlib.Omega.{arith}
+use mathlib.Core.Path.{◌≡◌}
 use lib.ListN.{length, drop}
-use borrow.Author.Rules.{rules}
 use Rattle.rules.specs.Bytes.{upto}
 use Rattle.lines.specs.Lines.{feed}
-use Rattle.lines.proofs.Splits.{end_past, end_here, end_later}
 use Rattle.lines.proofs.line_end.Given as goal
 
 abbrev pub invariant-loop-i : goal.invariant-loop-i

@@ -1,5 +1,4 @@
 -- Each program's reply is its own function's.
-use borrow.Author.Rules.{rules}
 use Rattle.replies.proofs.write.Goals as goal
 
 pub returns-in-Tagline : goal.returns-in-Tagline

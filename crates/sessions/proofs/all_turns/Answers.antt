@@ -1,7 +1,6 @@
 -- The program stops for one of four reasons; where there is none, one more read was a turn of the session.
-use Rattle.std.proofs.Common.{◌≡◌, ◌<◌, arith}
+use Rattle.std.proofs.Common.{arith}
 use borrow.Author.Tests.{not-true, not-false}
-use Rattle.sessions.specs.Runs.{most_reads}
 use Rattle.sessions.proofs.Runs.{reads_on, stops}
 use Rattle.sessions.proofs.all_turns.Goals as goal
 

@@ -1,5 +1,5 @@
 -- The invariant: the reads so far were turns of a session that has not ended.
-use Rattle.std.proofs.Common.{◌≡◌, ◌-◌, length}
+use Rattle.std.proofs.Common.{◌-◌}
 use Rattle.sessions.specs.Runs.{most_reads}
 use Rattle.sessions.proofs.Runs.{Going}
 use Rattle.sessions.proofs.all_turns.Given as goal

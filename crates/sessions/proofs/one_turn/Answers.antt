@@ -1,5 +1,5 @@
 -- Whatever the read put into the buffer, the kept bytes before it stay. Where nobody reads what is written, the write has failed.
-use Rattle.std.proofs.Common.{◌≡◌, ◌≤◌, false, length, refl, sym, ◌∙◌, arith}
+use Rattle.std.proofs.Common.{◌≡◌, false, refl, sym, ◌∙◌, arith}
 use Rattle.std.proofs.Math.Seq.{length-take-le}
 use Rattle.std.specs.Prelude.{Result, Ok, Err, is_ok, IsErrAnd}
 use Rattle.replies.proofs.Pieces.{wrote_within}

@@ -1,8 +1,6 @@
-use Prim.Native.Nat.{◌+◌, ◌-◌, ◌*◌, ◌^◌, ◌≤◌, ◌<◌}
+use Prim.Native.Nat.{◌+◌, ◌*◌, ◌^◌, ◌≤◌}
 use mathlib.Core.Path.{◌≡◌}
-use mathlib.Core.Logic.{⊎_elim}
 use native.Mathlib.Omega.{arith}
-use borrow.Author.Rules.{rules}
 use Rattle.tens.proofs.Numerals.{next_power, power_le, Highest, no_numeric, none_at_all, none_below, is_numeric}
 use Rattle.tens.proofs.behind_one.Goals as goal
 use Rattle.tens.proofs.behind_one.Goals.{At-loop-count, Left-loop-count, Else-count-eq0, else-loop-count-test, then-loop-count-test+then-v-one}

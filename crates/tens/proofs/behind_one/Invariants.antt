@@ -1,10 +1,6 @@
 -- The invariant: `one` is 10^count, and not above v unless count is 0. Where the loop is left no higher power is.
-use Prim.Native.Nat.{◌+◌, ◌-◌, ◌*◌, ◌^◌, ◌≤◌, ◌<◌}
+use Prim.Native.Nat.{◌-◌, ◌^◌, ◌≤◌, ◌<◌}
 use mathlib.Core.Path.{◌≡◌}
-use mathlib.Core.Logic.{⊎_elim}
-use native.Mathlib.Omega.{arith}
-use borrow.Author.Rules.{rules}
-use Rattle.tens.proofs.Numerals.{next_power, power_le, Highest, no_numeric, none_at_all, none_below, is_numeric}
 use Rattle.tens.proofs.behind_one.Given as goal
 
 abbrev pub invariant-loop-count : goal.invariant-loop-count

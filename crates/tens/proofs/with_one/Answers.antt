@@ -2,7 +2,6 @@
 use mathlib.Core.Path.{◌∙◌, ap}
 use Prim.Native.Nat.{◌+◌}
 use native.Mathlib.Omega.{arith}
-use borrow.Author.Rules.{rules}
 use Rattle.tens.proofs.Numerals.{power_le, one_before_lem}
 use Rattle.tens.proofs.with_one.Goals as goal
 

@@ -1,25 +1,22 @@
 use mathlib.Core.Path.{◌≡◌, sym}
-use Prim.Native.Nat.{◌+◌, ◌-◌, ◌*◌, ◌≤◌, ◌<◌}
+use Prim.Native.Nat.{◌+◌, ◌*◌, ◌<◌}
 use native.Mathlib.Omega.{arith}
-use lib.ListN.{length, take, drop, get_or}
+use lib.ListN.{length, get_or}
 use borrow.Author.Rules.{rules}
-use Rattle.numeral.specs.Numeral.{value}
 use Rattle.numeral.proofs.Values.{value_nil, digits_at}
 use Rattle.bank.proofs.Strings.{next_character, joined_lt, small}
 use Rattle.bank.proofs.eights.joined.Goals as goal
 use Rattle.bank.proofs.eights.joined.Goals.{In-loop-i}
 
-inside : (c : In-loop-i) → let s = c in c.args.from + c.loop-i.i < length c.args.characters.now
-inside c = let s = c in omega (arith, c.requires.1)
+inside : (c : In-loop-i) → c.args.from + c.loop-i.i < length c.args.characters.now
+inside c = omega (arith, c.requires.1)
 
 pub loop-i-init : goal.loop-i-init
 loop-i-init c = (search rules, sym (value_nil 128))
 
 -- with one character more it is a number of 56 bits
-fits : (c : In-loop-i) → let s = c in
-    c.loop-i.v * 128 + get_or c.args.characters.now (c.args.from + c.loop-i.i) 0 < 0x100000000000000
+fits : (c : In-loop-i) → c.loop-i.v * 128 + get_or c.args.characters.now (c.args.from + c.loop-i.i) 0 < 0x100000000000000
 fits c =
-    let s = c in
     let a = c.loop-i in
     let cs = c.args.characters.now in
     let lt : a.v < 0x2000000000000 = rw a.invariant.1 (small _ a.i (joined_lt cs c.args.from c.requires.2 a.i (omega (arith, inside c))) (omega arith)) in

@@ -1,7 +1,6 @@
 -- The toggle says whether the AFI is written.
 use mathlib.Core.Path.{sym, ◌∙◌}
 use native.Mathlib.Omega.{arith}
-use borrow.Author.Rules.{rules}
 use Rattle.digits.proofs.Joins.{nothing_put}
 use Rattle.rules.proofs.BankReads.{at_lt}
 use Rattle.bank.proofs.RawTexts.{no_afi, some_afi}

@@ -2,7 +2,6 @@
 use mathlib.Core.Path.{◌∙◌}
 use native.Mathlib.Omega.{arith}
 use lib.ListN.{length-set}
-use borrow.Author.Rules.{rules}
 use Rattle.digits.proofs.Texts.{length_hex}
 use Rattle.bank.proofs.RawTexts.{field_is}
 use Rattle.bank.proofs.raw.put_field.Goals as goal

@@ -3,7 +3,6 @@ use Prim.Native.Nat.{◌+◌, ◌-◌, ◌*◌, ◌/◌, ◌≤◌}
 use mathlib.Core.Path.{◌≡◌, ap, ◌∙◌}
 use native.Mathlib.Omega.{arith}
 use lib.ListN.{length, length-take, length-drop}
-use borrow.Author.Rules.{rules}
 use Rattle.numeral.specs.Numeral.{size}
 use Rattle.rules.specs.Raw.{afi}
 use Rattle.digits.proofs.Joins.{join, integer_put}
@@ -46,14 +45,12 @@ slice_bounds-put_field-end c =
 
 pub put_field-requires : goal.put_field-requires
 put_field-requires c =
-    let size = (goal.at.put_field-requires c).After-byte-code in
     let s = (goal.at.put_field-requires c).Start in
     simp (length-take, length-drop)
     (omega (arith, code (goal.at.put_field-requires c).After-byte-code, c.size-behind.ensures, c.put_afi-end.ensures.end, c.put_afi-end.auto.out, c.put_decimal-total.ensures.value, c.put_decimal-total.auto.out, c.put_bytes-start.ensures.end, c.put_bytes-start.auto.out, few s, fit s, c.requires.1))
 
 pub returns : goal.returns
 returns c =
-    let size = (goal.at.returns c).After-byte-code in
     let words = rw (code (goal.at.returns c).After-byte-code, c.size-behind.ensures) at c.put_field.ensures in
     let decimal = integer_put (16 * c.args.words) c.put_decimal-total.ensures.value c.put_decimal-total.ensures.out_after in
     pieces_are c.args.bank.now c.args.words c.requires.0 (join c.put_bytes-start.ensures (join decimal (join c.put_afi-end.ensures words)))

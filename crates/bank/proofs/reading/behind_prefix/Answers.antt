@@ -1,9 +1,8 @@
 -- The shape is that of the bank's own row: each field lies in the words, and the tests are those of the rules 18 and 19.
 use Prim.Native.Nat.{◌+◌}
 use mathlib.Core.Path.{◌≡◌, refl, ap, ◌∙◌}
-use mathlib.Core.Logic.{◌⊎◌, ⊎_elim, inl, inr}
+use mathlib.Core.Logic.{◌⊎◌, inl, inr}
 use native.Mathlib.Omega.{arith}
-use borrow.Author.Rules.{rules}
 use Rattle.fields.specs.BitReaders.{code_field}
 use Rattle.bank.specs.Reading.{Referred, reference_end}
 use Rattle.bank.proofs.Answers.{two, refuses}
@@ -48,7 +47,6 @@ module _ (c : Else-power-reference) where
 
   small_reference : let s = (begin read).args in Referred s.bank.now s.s s.body s.company (shape read).shape_in-shape.result read.take-reference.result.value
   small_reference =
-      let power = c in
       let s = begin read in
       referred _ _ _ _ s.requires.0 _ s.requires.1 _ (shape read).shape_in-shape.ensures _ _ c.power.ensures (reference_is read) c.if-power-reference.false
 

@@ -3,7 +3,6 @@ use mathlib.Core.Path.{◌≡◌, refl}
 use mathlib.Core.List.{List}
 use Prim.Native.Nat.{ℕ, ◌+◌, ◌*◌, ◌≤◌, ◌<◌}
 use native.Mathlib.Omega.{arith}
-use borrow.Author.Rules.{rules}
 use lib.ListN.{length}
 use Rattle.rules.specs.declared.Scheme.{Scheme}
 use Rattle.rules.specs.declared.Parts.{Parts}
@@ -98,7 +97,7 @@ pub returns-then-one-end : goal.returns-then-one-end
 returns-then-one-end c = refuses c.refused_at-then-one-end.ensures refl (one_after (goal.at.returns-then-one-end c).After-first_one-one c.if-one-end.true)
 
 pub general-requires : goal.general-requires
-general-requires c = let e = (goal.at.general-requires c).After-first_one-one in (coded_as _ _ _ _ c.in-Integers.is (in_code (goal.at.general-requires c).After-first_one-one c.if-one-end.false), parts_at (goal.at.general-requires c).After-first_one-one)
+general-requires c = (coded_as _ _ _ _ c.in-Integers.is (in_code (goal.at.general-requires c).After-first_one-one c.if-one-end.false), parts_at (goal.at.general-requires c).After-first_one-one)
 
 pub partitioned-requires : goal.partitioned-requires
-partitioned-requires c = let e = (goal.at.partitioned-requires c).After-first_one-one in (coded_as _ _ _ _ c.in-F.is (in_code (goal.at.partitioned-requires c).After-first_one-one c.if-one-end.false), parts_at (goal.at.partitioned-requires c).After-first_one-one)
+partitioned-requires c = (coded_as _ _ _ _ c.in-F.is (in_code (goal.at.partitioned-requires c).After-first_one-one c.if-one-end.false), parts_at (goal.at.partitioned-requires c).After-first_one-one)

@@ -22,10 +22,10 @@ take-first-requires c =
 
 -- where the second and the third begin
 second_at : (c : After-take-first) → c.take-first.result.at.0 ≡ 8 + c.args.a
-second_at c = let s = c in omega (arith, behind c.args.bank.now c.args.at c.args.a c.take-first.ensures, c.requires.1)
+second_at c = omega (arith, behind c.args.bank.now c.args.at c.args.a c.take-first.ensures, c.requires.1)
 
 third_at : (c : After-take-second) → let x = c.args in c.take-second.result.at.0 ≡ 8 + x.a + x.b
-third_at c = let s = c in omega (arith, behind c.args.bank.now c.take-first.result.at c.args.b c.take-second.ensures, second_at (goal.at.After-take-second c).After-take-first)
+third_at c = omega (arith, behind c.args.bank.now c.take-first.result.at c.args.b c.take-second.ensures, second_at (goal.at.After-take-second c).After-take-first)
 
 pub take-second-requires : goal.take-second-requires
 take-second-requires c =

@@ -1,18 +1,16 @@
-use Prim.Native.Nat.{◌+◌, ◌-◌, ◌*◌, ◌≤◌}
 use mathlib.Core.Path.{◌≡◌, sym, ◌∙◌}
 use native.Mathlib.Omega.{arith}
 use borrow.Author.Rules.{rules}
 use lib.ListN.{length}
 use lib.Seq.{take_all}
 use Rattle.bank.specs.Reading.{groups_at}
-use Rattle.bank.proofs.Groups.{Stored, length_groups, length_stored, next_groups}
+use Rattle.bank.proofs.Groups.{length_groups, length_stored, next_groups}
 use Rattle.fields.proofs.Steps.{behind, taken}
 use Rattle.bank.proofs.reading.groups.Goals as goal
 use Rattle.bank.proofs.reading.groups.Goals.{In-loop-i}
 
 twenty : (c : In-loop-i) → length c.loop-i.groups ≡ 20
 twenty c =
-    let s = c in
     let v = c.loop-i in
     length_stored c.args.bank.now c.args.from.0 c.args.k v.i v.groups v.invariant.2 v.invariant.0 c.requires.most
 

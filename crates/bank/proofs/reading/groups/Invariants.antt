@@ -1,13 +1,7 @@
 -- The invariant: i groups are stored, zeros stand behind them, and `at` is the code bit of the next one.
 use Prim.Native.Nat.{◌+◌, ◌-◌, ◌*◌, ◌≤◌}
-use mathlib.Core.Path.{◌≡◌, sym, ◌∙◌}
-use native.Mathlib.Omega.{arith}
-use borrow.Author.Rules.{rules}
-use lib.ListN.{length}
-use lib.Seq.{take_all}
-use Rattle.bank.specs.Reading.{groups_at}
-use Rattle.bank.proofs.Groups.{Stored, length_groups, length_stored, next_groups}
-use Rattle.fields.proofs.Steps.{behind, taken}
+use mathlib.Core.Path.{◌≡◌}
+use Rattle.bank.proofs.Groups.{Stored}
 use Rattle.bank.proofs.reading.groups.Given as goal
 
 abbrev pub invariant-loop-i : goal.invariant-loop-i

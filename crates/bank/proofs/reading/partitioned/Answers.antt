@@ -1,7 +1,6 @@
 -- The filter, the partition value and the prefix are taken one behind the other; the tests are those of the rules 16 and 17.
 use mathlib.Core.Path.{◌≡◌}
 use native.Mathlib.Omega.{arith}
-use borrow.Author.Rules.{rules}
 use Rattle.fields.specs.BitReaders.{code_field}
 use Rattle.bank.proofs.Answers.{refuses, prefix_inside, lies}
 use Rattle.bank.proofs.Prefixes.{no_row, listed, few_digits, prefix_lies, large_prefix, begun, prefix_ends}
@@ -15,10 +14,10 @@ take-filter-requires c =
 
 -- the code bits of the partition value and of the prefix
 partition_at : (c : After-take-filter) → c.take-filter.result.at.0 ≡ 11
-partition_at c = let s = c in omega (arith, behind c.args.bank.now c.args.at 3 c.take-filter.ensures, c.requires.1)
+partition_at c = omega (arith, behind c.args.bank.now c.args.at 3 c.take-filter.ensures, c.requires.1)
 
 prefix_at : (c : After-take-partition) → c.take-partition.result.at.0 ≡ 14
-prefix_at c = let s = c in omega (arith, behind c.args.bank.now c.take-filter.result.at 3 c.take-partition.ensures, partition_at (goal.at.After-take-partition c).After-take-filter)
+prefix_at c = omega (arith, behind c.args.bank.now c.take-filter.result.at 3 c.take-partition.ensures, partition_at (goal.at.After-take-partition c).After-take-filter)
 
 pub take-partition-requires : goal.take-partition-requires
 take-partition-requires c =
@@ -26,20 +25,18 @@ take-partition-requires c =
 
 -- the three values
 filter_is : (c : After-take-filter) → c.take-filter.result.value ≡ code_field c.args.bank.now 8 3
-filter_is c = let s = c in taken c.args.bank.now c.args.at 3 c.take-filter.ensures 8 c.requires.1
+filter_is c = taken c.args.bank.now c.args.at 3 c.take-filter.ensures 8 c.requires.1
 
 partition_is : (c : After-take-partition) → c.take-partition.result.value ≡ code_field c.args.bank.now 11 3
-partition_is c = let s = c in taken c.args.bank.now c.take-filter.result.at 3 c.take-partition.ensures 11 (partition_at (goal.at.After-take-partition c).After-take-filter)
+partition_is c = taken c.args.bank.now c.take-filter.result.at 3 c.take-partition.ensures 11 (partition_at (goal.at.After-take-partition c).After-take-filter)
 
 prefix_is : (c : After-take-prefix) → c.take-prefix.result.value ≡ code_field c.args.bank.now 14 c.prefix-cell.result.bits
 prefix_is c =
     let read = (goal.at.After-take-prefix c).After-take-partition in
-    let s = c in
     taken c.args.bank.now c.take-partition.result.at c.prefix-cell.result.bits c.take-prefix.ensures 14 (prefix_at read)
 
 pub returns-then-row-eq7 : goal.returns-then-row-eq7
 returns-then-row-eq7 c =
-    let read = (goal.at.returns-then-row-eq7 c).After-take-filter in
     refuses c.refused_at.ensures (omega (arith, partition_at (goal.at.returns-then-row-eq7 c).After-take-filter)) (no_row _ _ _ c.requires.0 _ (partition_is (goal.at.returns-then-row-eq7 c).After-take-partition) c.if-row-eq7.true)
 
 pub prefix-cell-requires : goal.prefix-cell-requires
@@ -59,7 +56,6 @@ power-requires c =
 
 pub returns-then-power-prefix : goal.returns-then-power-prefix
 returns-then-power-prefix c =
-    let power = (goal.at.returns-then-power-prefix c).After-take-prefix in
     let read = (goal.at.returns-then-power-prefix c).After-take-partition in
     refuses c.refused_at-then-power-prefix.ensures (omega (arith, prefix_at read))
     (large_prefix _ _ _ c.requires.0 _ (partition_is read) c.if-row-eq7.false _ c.prefix-cell.ensures _ _ (prefix_is (goal.at.returns-then-power-prefix c).After-take-prefix) c.power.ensures c.if-power-prefix.true)

@@ -1,6 +1,5 @@
 -- The control word is refused by one of its rules, or the code is read.
 use mathlib.Core.Path.{◌≡◌, refl}
-use borrow.Author.Rules.{rules}
 use Rattle.rules.specs.Answers.{refused}
 use Rattle.rules.specs.BankNumbers.{control_in, tag_of_bank}
 use Rattle.rules.proofs.BankReads.{control_reads}

@@ -1,6 +1,5 @@
 -- In each arm the shape is computed, with the cell or the bits that the row has.
 use mathlib.Core.Path.{◌≡◌, sym, ap, ◌∙◌}
-use borrow.Author.Rules.{rules}
 use Rattle.rules.specs.declared.Last.{Last}
 use Rattle.rules.specs.declared.Table.{Table}
 use Rattle.rules.specs.declared.Body.{Body}

@@ -1,6 +1,5 @@
 -- The reference has the width that the row has for it.
 use mathlib.Core.Path.{◌≡◌, ap, ◌∙◌}
-use borrow.Author.Rules.{rules}
 use Rattle.rules.specs.Schemes.{asset_bits, row_at, row_of}
 use Rattle.bank.proofs.PackedRows.{asset_row, asset_wide}
 use Rattle.bank.proofs.writing.put_asset.Goals as goal
@@ -16,4 +15,4 @@ pub put_wide-requires : goal.put_wide-requires
 put_wide-requires c = (c.requires.0, rw (width (goal.at.put_wide-requires c).After-asset-width) (asset_wide c.requires.1))
 
 pub returns : goal.returns
-returns c = let put = (goal.at.returns c).After-asset-width in rw (width (goal.at.returns c).After-asset-width) at c.put_wide.ensures
+returns c = rw (width (goal.at.returns c).After-asset-width) at c.put_wide.ensures

@@ -3,7 +3,6 @@ use Prim.Native.Nat.{◌≤◌}
 use mathlib.Core.Path.{◌≡◌}
 use native.Mathlib.Omega.{arith}
 use lib.ListN.{length, length-append}
-use borrow.Author.Rules.{rules}
 use Rattle.numeral.proofs.Values.{length_numeral}
 use Rattle.rules.specs.declared.Body.{Body}
 use Rattle.bank.specs.Writing.{Room, company_bits, reference_bits, KeepsBehind}

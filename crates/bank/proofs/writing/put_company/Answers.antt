@@ -4,7 +4,6 @@ use mathlib.Core.Path.{◌≡◌, ap, ap₂, ◌∙◌}
 use mathlib.Core.List.{◌++◌}
 use native.Mathlib.Omega.{arith}
 use lib.Dec.{lit≤}
-use borrow.Author.Rules.{rules}
 use Rattle.numeral.specs.Numeral.{numeral}
 use Rattle.numeral.proofs.Values.{length_numeral}
 use Rattle.rules.specs.Schemes.{prefix_bits, row_at, row_of}
@@ -21,7 +20,7 @@ width : (c : After-prefix-cell) → c.prefix-cell.result.bits ≡ prefix_bits (r
 width c = ap (λ k. k.bits) c.prefix-cell.ensures ∙ ap (λ p. prefix_bits (row_at p)) c.by_digits-p.ensures
 
 six : (c : After-by_digits-p) → c.args.tag.filter * 8 + c.by_digits-p.result < 64
-six c = let s = c in omega (arith, c.by_digits-p.ensures, company_row c.requires.1, c.requires.1.filter)
+six c = omega (arith, c.by_digits-p.ensures, company_row c.requires.1, c.requires.1.filter)
 
 pub push-six-requires : goal.push-six-requires
 push-six-requires c =

@@ -1,6 +1,5 @@
 -- Each integer goes on where the one before it ends.
 use native.Mathlib.Omega.{arith}
-use borrow.Author.Rules.{rules}
 use Rattle.numeral.proofs.Values.{length_numeral}
 use Rattle.bank.proofs.Rooms.{takes, left, then}
 use Rattle.bank.proofs.writing.put_integers.Goals as goal

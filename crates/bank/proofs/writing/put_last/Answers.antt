@@ -1,6 +1,5 @@
 -- In each arm the last part is known, and so its limits.
 use native.Mathlib.Omega.{arith}
-use borrow.Author.Rules.{rules}
 use Rattle.bank.proofs.Rooms.{takes}
 use Rattle.bank.proofs.writing.put_last.Goals as goal
 

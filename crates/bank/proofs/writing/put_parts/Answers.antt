@@ -1,6 +1,5 @@
 -- In each arm the parts are known, and so the limits of the record's fields; the start leaves room for all of them.
 use native.Mathlib.Omega.{arith}
-use borrow.Author.Rules.{rules}
 use Rattle.bits.proofs.Streams.{continued}
 use Rattle.bank.proofs.PackedBanks.{start_leaves}
 use Rattle.bank.proofs.writing.put_parts.Goals as goal

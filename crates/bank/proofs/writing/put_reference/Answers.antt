@@ -1,7 +1,6 @@
 -- The reference goes into the bits that the row has for it.
 use mathlib.Core.Path.{◌≡◌, ap, ◌∙◌}
 use native.Mathlib.Omega.{arith}
-use borrow.Author.Rules.{rules}
 use Rattle.rules.specs.Schemes.{cell, row_at, row_of}
 use Rattle.bank.proofs.PackedRows.{reference_row, reference_narrow, reference_lt}
 use Rattle.bank.proofs.Rooms.{takes}
@@ -19,4 +18,4 @@ push-requires c =
     rw (width (goal.at.push-requires c).After-reference-cell) (takes c.requires.0 (cell c.args.t (row_of c.args.tag.digits)).0 c.args.tag.reference (omega (arith, reference_narrow c.requires.1)) (reference_narrow c.requires.1) (reference_lt c.requires.1))
 
 pub returns : goal.returns
-returns c = let p = (goal.at.returns c).After-reference-cell in rw (width (goal.at.returns c).After-reference-cell) at c.push.ensures
+returns c = rw (width (goal.at.returns c).After-reference-cell) at c.push.ensures

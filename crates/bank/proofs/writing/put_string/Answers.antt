@@ -1,10 +1,10 @@
 use mathlib.Core.Path.{◌≡◌}
-use Prim.Native.Nat.{◌+◌, ◌-◌, ◌≤◌}
+use Prim.Native.Nat.{◌+◌, ◌≤◌}
 use native.Mathlib.Omega.{arith}
 use lib.ListN.{length}
 use borrow.Author.Rules.{rules}
 use Rattle.bits.proofs.Streams.{kept}
-use Rattle.bank.proofs.PackedStrings.{Begun, none_yet, takes_next, some_more}
+use Rattle.bank.proofs.PackedStrings.{none_yet, takes_next, some_more}
 use Rattle.bank.proofs.writing.put_string.Goals as goal
 use Rattle.bank.proofs.writing.put_string.Goals.{After-least-n}
 

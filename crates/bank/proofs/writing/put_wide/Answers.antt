@@ -3,7 +3,6 @@ use Prim.Native.Nat.{◌-◌}
 use native.Mathlib.Omega.{arith}
 use native.Mathlib.Nat.{mod-lt}
 use lib.Dec.{lit<, lit≤}
-use borrow.Author.Rules.{rules}
 use Rattle.numeral.proofs.Values.{length_numeral}
 use Rattle.bank.proofs.PackedRows.{piece_lt, pieces_are}
 use Rattle.bank.proofs.Rooms.{takes, left, same_bits, then}

@@ -4,7 +4,6 @@ use Prim.Native.Nat.{◌+◌, ◌-◌, ◌≤◌}
 use native.Mathlib.Omega.{arith}
 use lib.Dec.{lit<}
 use lib.ListN.{length}
-use borrow.Author.Rules.{rules}
 use Rattle.numeral.specs.Numeral.{numeral}
 use Rattle.bits.specs.Streams.{waiting, Streamed}
 use Rattle.bank.proofs.PackedZeros.{none_left, width, takes_some, before_end, inside, all_there}

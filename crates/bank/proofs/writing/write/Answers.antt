@@ -2,7 +2,6 @@
 use Prim.Native.Nat.{◌+◌, ◌*◌}
 use mathlib.Core.Path.{◌≡◌}
 use native.Mathlib.Omega.{arith}
-use borrow.Author.Rules.{rules}
 use Rattle.bank.proofs.PackedBanks.{fields_fit, keeps, takes_zeros, ends}
 use Rattle.bank.proofs.writing.write.Goals as goal
 use Rattle.bank.proofs.writing.write.Goals.{After-about-outline, After-put_parts-end, After-size-n, Start}

@@ -1,7 +1,6 @@
 -- `show_again` meets its contract: the first call's answer is the rules', and the second turns back what was written.
 use mathlib.Core.Path.{◌≡◌, sym, ap, ◌∙◌}
 use lib.Seq.{length-take-le}
-use borrow.Author.Rules.{rules}
 use Rattle.rules.specs.Calls.{text_to_bank}
 use Rattle.codec.specs.Answers.{answered}
 use Rattle.codec.specs.declared.Answer.{Answer}

@@ -1,7 +1,6 @@
 -- `write_again` meets its contract: the first call's answer is the rules', and the second turns back what was written.
 use mathlib.Core.Path.{◌≡◌, sym, ap, ◌∙◌}
 use lib.Seq.{length-take-le}
-use borrow.Author.Rules.{rules}
 use Rattle.numeral.proofs.Values.{digits_of_lem}
 use Rattle.rules.specs.Calls.{bank_to_text}
 use Rattle.codec.specs.Answers.{answered}

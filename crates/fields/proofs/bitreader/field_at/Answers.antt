@@ -1,6 +1,5 @@
 -- The address stands at its index among the bank's bits.
 use mathlib.Core.Path.{ap, ◌∙◌}
-use borrow.Author.Rules.{rules}
 use Rattle.bits.specs.Bits.{field_at}
 use Rattle.fields.proofs.bitreader.field_at.Goals as goal
 

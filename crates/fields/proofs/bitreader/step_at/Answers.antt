@@ -1,6 +1,5 @@
 -- The number is read at the code bit's address, and the code bit is moved by the width.
 use mathlib.Core.Path.{ap, ◌∙◌}
-use borrow.Author.Rules.{rules}
 use Rattle.rules.specs.Coding.{at}
 use Rattle.fields.proofs.bitreader.step_at.Goals as goal
 

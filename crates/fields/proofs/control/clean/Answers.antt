@@ -1,7 +1,6 @@
 -- Past the first two rules each bit is looked at by its address.
 use mathlib.Core.Path.{sym, ◌∙◌}
 use lib.Dec.{lit≤}
-use borrow.Author.Rules.{rules}
 use Rattle.fields.proofs.Controls.{refuses, same_refusal, lies, toggled, control_bit, in_order}
 use Rattle.fields.proofs.control.clean.Goals as goal
 

@@ -1,6 +1,5 @@
 -- A field of one bit, and one of eight, each fits a byte.
 use native.Mathlib.Omega.{arith}
-use borrow.Author.Rules.{rules}
 use Rattle.rules.proofs.BankReads.{at_lt}
 use Rattle.fields.proofs.control.fields.Goals as goal
 

@@ -7,7 +7,6 @@ use Rattle.identities.specs.Numbers.{is}
 use Rattle.parts.proofs.Controls.{from_index}
 use Rattle.identify.specs.Words.{by_row, by_serial, by_last}
 use Rattle.identify.proofs.TagLines.{long_there, no_long}
-use borrow.Author.Rules.{rules}
 use Rattle.identify.proofs.counted.by_last.Goals as goal
 use Rattle.identify.proofs.counted.by_last.Goals.{After-is, In-Nothing}
 
@@ -26,7 +25,6 @@ one c = no_long _ (sym c.long.ensures ∙ c.in-Nothing.is)
 
 judged : (c : After-is) → let a = c.args in c.is.result ≡ is a.c (drop a.at a.x.now)
 judged c =
-    let s = c in
     c.is.ensures ∙ ap (is c.args.c) (from_index c.args.x.now c.args.at c.requires.0)
 
 pub returns-then-is : goal.returns-then-is

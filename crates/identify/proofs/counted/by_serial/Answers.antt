@@ -13,7 +13,6 @@ use Rattle.rules.specs.TextNumbers.{characters_in}
 use Rattle.alphabet.specs.Strings.{count_of}
 use Rattle.identify.specs.declared.counted.Verdict.TheVariants.{WrongText, Unheld}
 use Rattle.identify.specs.Words.{fitting, by_row, last_bits, by_count, by_serial}
-use borrow.Author.Rules.{rules}
 use Rattle.identify.proofs.counted.by_serial.Goals as goal
 use Rattle.identify.proofs.counted.by_serial.Goals.{After-is_integer}
 

@@ -11,7 +11,6 @@ use Rattle.parts.specs.declared.parts.End.{End}
 use Rattle.parts.specs.declared.parts.End.TheVariants.{Is, Refused}
 use Rattle.parts.specs.Parts.{end_of}
 use Rattle.identify.proofs.Pieces.{is_taken, last_taken}
-use borrow.Author.Rules.{rules}
 use Rattle.identify.proofs.counted.is_integer.Goals as goal
 
 -- what the code's answer says of the rules'

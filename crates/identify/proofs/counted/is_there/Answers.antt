@@ -1,7 +1,6 @@
 -- A component by its cases.
 use mathlib.Core.Path.{sym, ap}
 use Rattle.identify.specs.Words.{is_there}
-use borrow.Author.Rules.{rules}
 use Rattle.identify.proofs.counted.is_there.Goals as goal
 
 pub returns-in-Padded : goal.returns-in-Padded

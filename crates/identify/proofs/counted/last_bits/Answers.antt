@@ -2,7 +2,6 @@
 use mathlib.Core.Path.{sym, ap, ◌∙◌}
 use Rattle.rules.specs.declared.Parts.TheVariants.{F}
 use Rattle.identify.specs.Words.{bits_of, last_bits}
-use borrow.Author.Rules.{rules}
 use Rattle.identify.proofs.counted.last_bits.Goals as goal
 
 pub returns-in-Integer : goal.returns-in-Integer

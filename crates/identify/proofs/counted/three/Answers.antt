@@ -5,7 +5,7 @@ use mathlib.Core.List.{[], ◌∷◌}
 use native.Mathlib.Omega.{arith}
 use lib.ListN.{drop}
 use lib.Seq.{drop-drop}
-use borrow.Author.Tests.{not-true, not-false, le-ltb, lt-ltb}
+use borrow.Author.Tests.{le-ltb, lt-ltb}
 use Rattle.rules.specs.Bytes.{behind, dot}
 use Rattle.identities.specs.declared.Component.TheVariants.{Padded, PaddedOrEmpty}
 use Rattle.identities.specs.Families.{short, long}
@@ -16,7 +16,6 @@ use Rattle.identify.specs.Words.{split_by, by_last}
 use Rattle.identify.proofs.Divided.{Cut, first_wrong, second_wrong}
 use Rattle.identify.proofs.Verdicts.{never_empty, uncut, missing, cut_there}
 use Rattle.identify.proofs.Judgements.{wrong_form, wrong_total, last_decides, few_bits}
-use borrow.Author.Rules.{rules}
 use Rattle.identify.proofs.counted.three.Goals as goal
 use Rattle.identify.proofs.counted.three.Goals.{After-digits_before-2, Else-n-eq0, Else-not-is_there, In-At, In-At-digits_before}
 
@@ -67,8 +66,7 @@ returns-in_default-digits_before c =
     wrong_form a.f a.b a.c a.total a.x.now c.requires
     (second_wrong (Of a.total) Padded a.b a.x.now _ (first e) a.c (uncut d (behind dot a.x.now) (sym c.in_default-digits_before.is ∙ again r)))
 
-run_again : (c : In-At-digits_before) → let e = c in
-    At c.in-At-digits_before.m ≡ split_by PaddedOrEmpty (behind dot c.args.x.now)
+run_again : (c : In-At-digits_before) → At c.in-At-digits_before.m ≡ split_by PaddedOrEmpty (behind dot c.args.x.now)
 run_again c = sym c.in-At-digits_before.is ∙ again (goal.at.In-At-digits_before c).After-digits_before-2
 
 pub returns-then-not-is_there : goal.returns-then-not-is_there
@@ -82,14 +80,10 @@ returns-then-not-is_there c =
 
 -- the reference
 second : (c : Else-not-is_there) → let k = (goal.at.Else-not-is_there c).In-At-digits_before in
-    let e = c in
     let a = c.args in
     Cut a.b (behind dot a.x.now) c.in-At-digits_before.m
 second c =
-    let t = c in
     let k = (goal.at.Else-not-is_there c).In-At-digits_before in
-    let e = c in
-    let s = c in
     let a = c.args in
     let (_, d) = few_bits a.f a.b a.c a.total c.requires in
     cut_there d (behind dot a.x.now) _ (run_again k) (sym c.is_there.ensures ∙ c.if-not-is_there.false)

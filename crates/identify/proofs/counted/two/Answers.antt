@@ -3,7 +3,7 @@ use Prim.Native.Nat.{◌+◌}
 use mathlib.Core.Path.{◌≡◌, sym, ap, ◌∙◌}
 use mathlib.Core.List.{[]}
 use native.Mathlib.Omega.{arith}
-use borrow.Author.Tests.{not-true, not-false, le-ltb, lt-ltb}
+use borrow.Author.Tests.{le-ltb, lt-ltb}
 use Rattle.rules.specs.Bytes.{behind, dot}
 use Rattle.identities.specs.declared.Component.TheVariants.{Padded, PaddedOrEmpty}
 use Rattle.identities.specs.Numbers.{is}
@@ -14,7 +14,6 @@ use Rattle.identify.specs.Words.{split_by, by_row}
 use Rattle.identify.proofs.Divided.{Cut, first_wrong, last_wrong}
 use Rattle.identify.proofs.Verdicts.{never_empty, uncut, missing, cut_there}
 use Rattle.identify.proofs.Judgements.{wrong_pair, wrong_sum, row_decides}
-use borrow.Author.Rules.{rules}
 use Rattle.identify.proofs.counted.two.Goals as goal
 use Rattle.identify.proofs.counted.two.Goals.{After-is, Else-n-eq0, In-At}
 
@@ -69,14 +68,12 @@ overflow_sub-x c = omega (arith, (first (goal.at.overflow_sub-x c).Else-n-eq0).s
 
 pub returns-then-x-total : goal.returns-then-x-total
 returns-then-x-total c =
-    let r = (goal.at.returns-then-x-total c).After-is in
     let e = (goal.at.returns-then-x-total c).Else-n-eq0 in
     let a = c.args in
     wrong_sum a.f a.a a.b a.total a.x.now c.requires _ (first e) (sym (judged (goal.at.returns-then-x-total c).After-is) ∙ c.if-not-is.false) c.if-x-total.true
 
 pub returns : goal.returns
 returns c =
-    let r = (goal.at.returns c).After-is in
     let e = (goal.at.returns c).Else-n-eq0 in
     let a = c.args in
     c.by_row.ensures ∙ ap (by_row c.in-At.n) c.short.ensures

@@ -3,7 +3,6 @@ use mathlib.Core.Path.{sym, ap, ◌∙◌}
 use mathlib.Core.Bool.{cond}
 use Rattle.identify.specs.declared.direct.Way.TheVariants.{ByRecord}
 use Rattle.identify.specs.Words.{way_in}
-use borrow.Author.Rules.{rules}
 use Rattle.identify.proofs.direct.direct.Goals as goal
 
 pub returns-then-may_have_string : goal.returns-then-may_have_string

@@ -9,7 +9,6 @@ use Rattle.identify.specs.declared.direct.Strung.{Strung}
 use Rattle.identify.specs.declared.direct.Way.TheVariants.{Direct, ByRecord}
 use Rattle.identify.specs.Words.{fits_in, behind_filter, spelled_by, held_behind, way_in}
 use Rattle.identify.proofs.DirectTags.{Opened, opened_is, string_exact}
-use borrow.Author.Rules.{rules}
 use Rattle.identify.proofs.direct.held.Goals as goal
 use Rattle.identify.proofs.direct.held.Goals.{After-spelled, After-string_of, In-Direct}
 
@@ -18,15 +17,12 @@ returns-in_default c = sym (ap (held_behind c.args.text.now) (sym c.opened.ensur
 
 -- what was opened, from the place where it is known
 opened : (c : In-Direct) → Opened c.args.text.now c.in-Direct.s c.in-Direct.at
-opened c = let o = c in opened_is c.args.text.now _ _ (sym c.in-Direct.is ∙ c.opened.ensures)
+opened c = opened_is c.args.text.now _ _ (sym c.in-Direct.is ∙ c.opened.ensures)
 
 -- the way, by what the scheme has
-way : (c : After-string_of) (q : Strung) → c.string_of.result ≡ q → let s = c in
-    let t = c.args.text.now in
+way : (c : After-string_of) (q : Strung) → c.string_of.result ≡ q → let t = c.args.text.now in
     way_in t ≡ cond (spelled_by q (drop c.in-Direct.at t)) (Direct c.in-Direct.s c.in-Direct.at) ByRecord
 way c q e =
-    let s = c in
-    let o = c in
     let t = c.args.text.now in
     let n = c.in-Direct.at in
     ap (held_behind t) (sym c.opened.ensures ∙ c.in-Direct.is) ∙ ap (λ q. cond (spelled_by q (drop n t)) (Direct c.in-Direct.s n) ByRecord) (sym c.string_of.ensures ∙ e)
@@ -48,7 +44,6 @@ spelled-requires c =
 by_text : (c : After-spelled) (b : Bool) → c.spelled.result ≡ b → let s = (goal.at.After-spelled c).In-Direct in
     way_in c.args.text.now ≡ cond b (Direct c.in-Direct.s c.in-Direct.at) ByRecord
 by_text c b e =
-    let t = c in
     let q = (goal.at.After-spelled c).After-string_of in
     let s = (goal.at.After-spelled c).In-Direct in
     let x = c.args.text.now in

@@ -6,7 +6,6 @@ use lib.ListN.{drop, length-drop}
 use borrow.Author.Tests.{eq-eqb, ne_eqb, le-leb, lt-leb}
 use Rattle.rules.specs.Bytes.{dot}
 use Rattle.identify.proofs.DirectTags.{no_filter, two_bytes}
-use borrow.Author.Rules.{rules}
 use Rattle.identify.proofs.direct.is_filter.Goals as goal
 
 pub returns-then-text-at-lt-FILTER : goal.returns-then-text-at-lt-FILTER

@@ -11,7 +11,6 @@ use Rattle.rules.specs.Answers.{kept}
 use Rattle.rules.specs.TextNumbers.{characters_in}
 use Rattle.alphabet.specs.Strings.{count_of}
 use Rattle.identities.specs.Numbers.{holds, some_of}
-use borrow.Author.Rules.{rules}
 use Rattle.identify.proofs.direct.is_string.Goals as goal
 
 counts : (k : ℕ) (o : Option (List ℕ)) → ltb 0 (count_of o) && leb (count_of o) k ≡ holds (λ (cs : List ℕ). leb (length cs) k) (kept some_of o)

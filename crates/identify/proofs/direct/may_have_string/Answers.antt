@@ -1,7 +1,6 @@
 -- The two bytes, case by case.
 use Prim.Native.Char.{code}
 use borrow.Author.Tests.{eq-eqb, ne_eqb, le-leb, lt-leb}
-use borrow.Author.Rules.{rules}
 use Rattle.identify.proofs.direct.may_have_string.Goals as goal
 
 pub returns-then-text-lt19 : goal.returns-then-text-lt19

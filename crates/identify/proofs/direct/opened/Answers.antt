@@ -3,7 +3,6 @@ use Prim.Native.Nat.{◌+◌, ◌≤◌}
 use mathlib.Core.Path.{◌≡◌, sym, ◌∙◌}
 use mathlib.Core.Bool.{true, cond}
 use native.Mathlib.Omega.{arith}
-use borrow.Author.Tests.{not-true, not-false}
 use lib.ListN.{length, drop}
 use Rattle.rules.specs.Grammar.{start}
 use Rattle.rules.specs.TextNumbers.{after}
@@ -11,7 +10,6 @@ use Rattle.digits.specs.Starts.{begun}
 use Rattle.identify.specs.declared.direct.Way.TheVariants.{Direct, ByRecord}
 use Rattle.identify.specs.Words.{is_filter, opened_in}
 use Rattle.identify.proofs.DirectTags.{other_start, start_within, no_name, name_within, with_name, filter_within}
-use borrow.Author.Rules.{rules}
 use Rattle.identify.proofs.direct.opened.Goals as goal
 use Rattle.identify.proofs.direct.opened.Goals.{Else-not-begins, In-Is}
 
@@ -29,14 +27,12 @@ name-requires c = start_within c.args.text.now (begins c)
 -- the name, from the place where it is known
 within : (c : In-Is) → c.in-Is.at ≤ length c.args.text.now
 within c =
-    let m = c in
     let e = (goal.at.In-Is c).Else-not-begins in
     name_within c.args.text.now (begins e) _ _ (sym c.in-Is.is ∙ c.name.ensures)
 
 called : (c : In-Is) → let t = c.args.text.now in
     opened_in t ≡ cond (is_filter (drop c.in-Is.at t)) (Direct c.in-Is.s (c.in-Is.at + 2)) ByRecord
 called c =
-    let m = c in
     let e = (goal.at.In-Is c).Else-not-begins in
     with_name c.args.text.now (begins e) _ _ (sym c.in-Is.is ∙ c.name.ensures)
 
@@ -46,10 +42,10 @@ overflow_add-result c =
     omega (arith, filter_within c.args.text.now c.in-Is.at (within s) (sym c.is_filter.ensures ∙ c.if-is_filter.true))
 
 pub returns-then-is_filter : goal.returns-then-is_filter
-returns-then-is_filter c = let f = (goal.at.returns-then-is_filter c).In-Is in sym (called (goal.at.returns-then-is_filter c).In-Is ∙ rw (sym c.is_filter.ensures ∙ c.if-is_filter.true))
+returns-then-is_filter c = sym (called (goal.at.returns-then-is_filter c).In-Is ∙ rw (sym c.is_filter.ensures ∙ c.if-is_filter.true))
 
 pub returns-else-is_filter : goal.returns-else-is_filter
-returns-else-is_filter c = let f = (goal.at.returns-else-is_filter c).In-Is in sym (called (goal.at.returns-else-is_filter c).In-Is ∙ rw (sym c.is_filter.ensures ∙ c.if-is_filter.false))
+returns-else-is_filter c = sym (called (goal.at.returns-else-is_filter c).In-Is ∙ rw (sym c.is_filter.ensures ∙ c.if-is_filter.false))
 
 pub returns-in-Unlisted : goal.returns-in-Unlisted
 returns-in-Unlisted c =

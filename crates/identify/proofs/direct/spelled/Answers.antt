@@ -19,7 +19,6 @@ use Rattle.text.proofs.Found.{Standing, stands}
 use Rattle.text.proofs.Found as found
 use Rattle.identify.specs.Words.{fits_in}
 use Rattle.identify.proofs.Pieces.{part_fits, part_not}
-use borrow.Author.Rules.{rules}
 use Rattle.identify.proofs.direct.spelled.Goals as goal
 use Rattle.identify.proofs.direct.spelled.Goals.{After-by_digits, In-Is}
 
@@ -27,7 +26,6 @@ use Rattle.identify.proofs.direct.spelled.Goals.{After-by_digits, In-Is}
 there : (c : In-Is) → let x = c.args.x.now in
     Standing 0 Prefix x 0 c.in-Is.field-0 c.in-Is.n c.in-Is.next
 there c =
-    let p = c in
     stands 0 Prefix c.args.x.now 0 _ _ _ (sym c.in-Is.is ∙ c.part_at.ensures)
 
 -- it has six to twelve digits, and picks a row
@@ -43,7 +41,6 @@ row c = let (l, u) = six_to_twelve (goal.at.After-by_digits c).In-Is in rw c.by_
 
 pub then_string-requires : goal.then_string-requires
 then_string-requires c =
-    let d = (goal.at.then_string-requires c).In-Is in
     let t = c.args.t in
     ((there (goal.at.then_string-requires c).In-Is).within, omega (arith, ap (λ r. r.digits) c.reference-digits.ensures, few_digits t c.by_digits.result (row (goal.at.then_string-requires c).After-by_digits)))
 

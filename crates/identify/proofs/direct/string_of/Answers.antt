@@ -6,14 +6,12 @@ use Rattle.rules.specs.declared.Body.TheVariants.{Then}
 use Rattle.rules.specs.declared.Parts.TheVariants.{F}
 use Rattle.rules.specs.Schemes.{about}
 use Rattle.identify.specs.Words.{strung_of}
-use borrow.Author.Rules.{rules}
 use Rattle.identify.proofs.direct.string_of.Goals as goal
 use Rattle.identify.proofs.direct.string_of.Goals.{In-F, In-Then}
 
 -- what follows the filter, from the place where it is known; and the last part
 body : (c : In-F) (b : Body) → c.in-F.body ≡ b → strung_of (about c.args.s).parts ≡ strung_of (F b)
 body c b e =
-    let p = c in
     ap strung_of (sym (ap (λ o. o.parts) c.about-parts.ensures) ∙ c.in-F.is) ∙ ap (λ b. strung_of (F b)) e
 
 last : (c : In-Then) (l : Last) → c.in-Then.last ≡ l → strung_of (about c.args.s).parts ≡ strung_of (F (Then c.in-Then.t l))

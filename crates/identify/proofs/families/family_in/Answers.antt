@@ -1,8 +1,6 @@
 -- Behind `urn:epc:id:` the family is found in the rest of the text.
 use mathlib.Core.Path.{◌≡◌, sym, ap, ◌∙◌}
 use native.Mathlib.Omega.{arith}
-use borrow.Author.Rules.{rules}
-use borrow.Author.Tests.{not-true, not-false}
 use mathlib.Core.Bool.{true}
 use lib.ListN.{drop, length-drop}
 use Rattle.rules.specs.TextNumbers.{after}

@@ -8,7 +8,6 @@ use Rattle.digits.specs.Starts.{begun}
 use Rattle.identities.specs.declared.Family.{Family}
 use Rattle.identities.specs.declared.Family.TheVariants.{Sgtin, Sscc, Sgln, Grai, Giai, Gsrn, Gsrnp, Gdti, Gid, Sgcn, Cpi}
 use Rattle.identities.specs.Grammar.{label}
-use borrow.Author.Rules.{rules}
 use Rattle.identify.proofs.families.is_named.Goals as goal
 
 arm : (g : Family) (u : List ℕ) {f : Family} {b : Bool} → f ≡ g → b ≡ begun (after (label g) u) → b ≡ begun (after (label f) u)

@@ -1,7 +1,6 @@
 -- At each family the long scheme is computed.
 use mathlib.Core.Path.{sym, ap}
 use Rattle.identify.specs.Words.{long_of}
-use borrow.Author.Rules.{rules}
 use Rattle.identify.proofs.families.long.Goals as goal
 
 pub returns-in-Sgtin : goal.returns-in-Sgtin

@@ -1,9 +1,5 @@
-use Prim.Native.Nat.{◌-◌, ◌≤◌}
-use mathlib.Core.Path.{◌≡◌, refl, sym, ◌∙◌}
-use lib.ListN.{drop}
+use mathlib.Core.Path.{refl, sym, ◌∙◌}
 use borrow.Author.Rules.{rules}
-use Rattle.identities.specs.Families.{families}
-use Rattle.identities.specs.Numbers.{named}
 use Rattle.identify.proofs.Names.{here, past, nobody}
 use Rattle.identify.proofs.families.name.Goals as goal
 

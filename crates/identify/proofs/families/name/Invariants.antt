@@ -1,11 +1,9 @@
 -- The invariant: the families before i are not named.
 use Prim.Native.Nat.{◌-◌, ◌≤◌}
-use mathlib.Core.Path.{◌≡◌, refl, sym, ◌∙◌}
+use mathlib.Core.Path.{◌≡◌}
 use lib.ListN.{drop}
-use borrow.Author.Rules.{rules}
 use Rattle.identities.specs.Families.{families}
 use Rattle.identities.specs.Numbers.{named}
-use Rattle.identify.proofs.Names.{here, past, nobody}
 use Rattle.identify.proofs.families.name.Given as goal
 
 abbrev pub invariant-loop-i : goal.invariant-loop-i

@@ -6,7 +6,6 @@ use Rattle.digits.specs.Pieces.{Puts}
 use Rattle.identities.specs.declared.Family.{Family}
 use Rattle.identities.specs.declared.Family.TheVariants.{Sgtin, Sscc, Sgln, Grai, Giai, Gsrn, Gsrnp, Gdti, Gid, Sgcn, Cpi}
 use Rattle.identities.specs.Grammar.{label}
-use borrow.Author.Rules.{rules}
 use Rattle.identify.proofs.families.put_label.Goals as goal
 
 arm : (g : Family) {f : Family} {at n : ℕ} {l m : List ℕ} → f ≡ g → Puts (label g) at l n m → Puts (label f) at l n m

@@ -1,7 +1,6 @@
 -- Two pieces: the literal is the start, and the label stands behind it.
 use Rattle.identities.specs.Grammar.{start}
 use Rattle.digits.proofs.Joins.{join}
-use borrow.Author.Rules.{rules}
 use Rattle.identify.proofs.families.put_start.Goals as goal
 
 pub returns : goal.returns

@@ -5,7 +5,6 @@ use Rattle.identities.specs.declared.Family.TheVariants.{Sgtin, Sscc, Sgln, Grai
 use Rattle.identities.specs.Families.{about}
 use Rattle.identify.specs.declared.form.Shape.{Shape}
 use Rattle.identify.specs.Words.{components_of, total_in, ShapeOf}
-use borrow.Author.Rules.{rules}
 use Rattle.identify.proofs.form.about.Goals as goal
 
 arm : (g : Family) {f : Family} {r : Shape} → f ≡ g → components_of r ≡ (about g).components → total_in r ≡ (about g).total → ShapeOf f r

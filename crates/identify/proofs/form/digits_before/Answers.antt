@@ -1,13 +1,11 @@
-use Prim.Native.Nat.{◌+◌, ◌-◌}
+use Prim.Native.Nat.{◌+◌}
 use mathlib.Core.Path.{◌≡◌, sym, ap, ◌∙◌}
 use native.Mathlib.Omega.{arith}
-use lib.ListN.{length, drop}
-use borrow.Author.Tests.{not-true, not-false}
+use lib.ListN.{drop}
 use Rattle.identities.specs.declared.Component.TheVariants.{PaddedOrEmpty}
 use Rattle.identify.specs.declared.form.Before.TheVariants.{At}
 use Rattle.identify.specs.Words.{split_by}
 use Rattle.identify.proofs.Verdicts.{further, no_further, further_again, past, at_dot, at_digit, at_other}
-use borrow.Author.Rules.{rules}
 use Rattle.identify.proofs.form.digits_before.Goals as goal
 
 pub returns-then-c-eq46 : goal.returns-then-c-eq46

@@ -1,14 +1,10 @@
 -- The invariant: the answer is that of the bytes from i on, i further.
-use Prim.Native.Nat.{◌+◌, ◌-◌}
-use mathlib.Core.Path.{◌≡◌, sym, ap, ◌∙◌}
-use native.Mathlib.Omega.{arith}
+use Prim.Native.Nat.{◌-◌}
+use mathlib.Core.Path.{◌≡◌}
 use lib.ListN.{length, drop}
-use borrow.Author.Tests.{not-true, not-false}
 use Rattle.identities.specs.declared.Component.TheVariants.{PaddedOrEmpty}
-use Rattle.identify.specs.declared.form.Before.TheVariants.{At}
 use Rattle.identify.specs.Words.{split_by}
-use Rattle.identify.proofs.Verdicts.{further, no_further, further_again, past, at_dot, at_digit, at_other}
-use borrow.Author.Rules.{rules}
+use Rattle.identify.proofs.Verdicts.{further}
 use Rattle.identify.proofs.form.digits_before.Given as goal
 
 abbrev pub invariant-loop-i : goal.invariant-loop-i

@@ -1,10 +1,5 @@
-use Prim.Native.Nat.{◌+◌, ◌-◌}
-use mathlib.Core.Path.{◌≡◌}
 use native.Mathlib.Omega.{arith}
-use lib.ListN.{length, drop}
-use Rattle.rules.specs.Bytes.{upto, dot}
 use Rattle.identify.proofs.Divided.{dot_past, dot_here, dot_later}
-use borrow.Author.Rules.{rules}
 use Rattle.identify.proofs.form.dot_in.Goals as goal
 
 pub loop-i-preserved : goal.loop-i-preserved

@@ -1,11 +1,8 @@
 -- The invariant: the first dot is as far as it is from here on.
 use Prim.Native.Nat.{◌+◌, ◌-◌}
 use mathlib.Core.Path.{◌≡◌}
-use native.Mathlib.Omega.{arith}
 use lib.ListN.{length, drop}
 use Rattle.rules.specs.Bytes.{upto, dot}
-use Rattle.identify.proofs.Divided.{dot_past, dot_here, dot_later}
-use borrow.Author.Rules.{rules}
 use Rattle.identify.proofs.form.dot_in.Given as goal
 
 abbrev pub invariant-loop-i : goal.invariant-loop-i

@@ -7,7 +7,6 @@ use Rattle.identities.specs.declared.Component.{Component}
 use Rattle.identities.specs.declared.Component.TheVariants.{Padded, PaddedOrEmpty, UpTo, Number, Characters, PartReference}
 use Rattle.identities.specs.Numbers.{is}
 use Rattle.identify.proofs.Components.{padded_or_empty}
-use borrow.Author.Rules.{rules}
 use Rattle.identify.proofs.form.is.Goals as goal
 
 arm : (d : Component) (x : List ℕ) {c : Component} {b : Bool} → c ≡ d → b ≡ is d x → b ≡ is c x

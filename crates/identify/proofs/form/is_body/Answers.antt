@@ -2,7 +2,6 @@
 use mathlib.Core.Path.{sym, ap, ◌∙◌}
 use Rattle.identify.specs.Words.{components_of, total_in}
 use Rattle.identify.proofs.Divided.{body_divided}
-use borrow.Author.Rules.{rules}
 use Rattle.identify.proofs.form.is_body.Goals as goal
 
 pub returns-in-Two : goal.returns-in-Two

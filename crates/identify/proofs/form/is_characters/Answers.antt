@@ -3,7 +3,6 @@ use mathlib.Core.Path.{ap, ◌∙◌}
 use lib.Dec.{ltb}
 use Rattle.rules.specs.TextNumbers.{characters_in}
 use Rattle.identify.proofs.Components.{some_characters}
-use borrow.Author.Rules.{rules}
 use Rattle.identify.proofs.form.is_characters.Goals as goal
 
 pub returns : goal.returns

@@ -1,7 +1,6 @@
 -- One digit is a number; of more, the first is not a zero.
 use mathlib.Core.Path.{◌∙◌}
 use Rattle.identify.proofs.Components.{short_number, leading_zero, no_leading_zero}
-use borrow.Author.Rules.{rules}
 use Rattle.identify.proofs.form.is_number.Goals as goal
 
 pub returns-then-x-lt2 : goal.returns-then-x-lt2

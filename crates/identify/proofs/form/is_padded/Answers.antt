@@ -1,7 +1,6 @@
 -- Empty is none; else all bytes are digits.
 use mathlib.Core.Path.{◌∙◌}
 use Rattle.identify.proofs.Components.{padded_empty, padded_some}
-use borrow.Author.Rules.{rules}
 use Rattle.identify.proofs.form.is_padded.Goals as goal
 
 pub returns-then-x-eq0 : goal.returns-then-x-eq0

@@ -3,19 +3,16 @@ use Prim.Native.Nat.{◌+◌}
 use mathlib.Core.Path.{◌≡◌, refl, sym, ap, ◌∙◌}
 use mathlib.Core.List.{[]}
 use native.Mathlib.Omega.{arith}
-use borrow.Author.Tests.{not-true, not-false}
 use Rattle.rules.specs.Bytes.{behind, dot}
 use Rattle.identities.specs.Numbers.{is}
 use Rattle.parts.proofs.Controls.{from_index}
 use Rattle.identify.proofs.Divided.{Cut, cut_is, first_wrong, last_wrong, pair_right}
-use borrow.Author.Rules.{rules}
 use Rattle.identify.proofs.form.is_pair.Goals as goal
 use Rattle.identify.proofs.form.is_pair.Goals.{After-is, In-At}
 
 -- the cut, from the place where its index is known
 cut : (c : In-At) → let a = c.args in Cut a.a a.x.now c.in-At.n
 cut c =
-    let s = c in
     let a = c.args in
     cut_is a.a a.x.now c.in-At.n (sym c.in-At.is ∙ c.split.ensures)
 

@@ -1,7 +1,6 @@
 -- Empty is none; else it is characters of a part reference only.
 use mathlib.Core.Path.{◌∙◌}
 use Rattle.identify.proofs.Components.{no_part, part_there}
-use borrow.Author.Rules.{rules}
 use Rattle.identify.proofs.form.is_part_reference.Goals as goal
 
 pub returns-then-x-eq0 : goal.returns-then-x-eq0

@@ -1,7 +1,6 @@
 -- A total by its two cases.
 use mathlib.Core.Path.{sym, ap}
 use Rattle.identify.specs.Words.{counts}
-use borrow.Author.Rules.{rules}
 use Rattle.identify.proofs.form.is_total.Goals as goal
 
 pub returns-in-Of : goal.returns-in-Of

@@ -5,20 +5,17 @@ use mathlib.Core.List.{[], ◌∷◌}
 use native.Mathlib.Omega.{arith}
 use lib.ListN.{drop}
 use lib.Seq.{drop-drop}
-use borrow.Author.Tests.{not-true, not-false}
 use Rattle.rules.specs.Bytes.{behind, dot}
 use Rattle.identities.specs.Numbers.{is}
 use Rattle.parts.proofs.Controls.{from_index}
 use Rattle.identify.specs.Words.{split_by}
 use Rattle.identify.proofs.Divided.{Cut, cut_is, first_wrong, second_wrong, third_wrong, triple_right}
-use borrow.Author.Rules.{rules}
 use Rattle.identify.proofs.form.is_triple.Goals as goal
 use Rattle.identify.proofs.form.is_triple.Goals.{After-is, After-split-2, In-At, In-At-split}
 
 -- the first cut, from the place where its index is known
 first : (c : In-At) → let a = c.args in Cut a.a a.x.now c.in-At.n
 first c =
-    let s = c in
     let a = c.args in
     cut_is a.a a.x.now c.in-At.n (sym c.in-At.is ∙ c.split.ensures)
 
@@ -53,8 +50,7 @@ returns-in_default-split c =
     let a = c.args in
     second_wrong a.total a.a a.b a.x.now _ (first k) a.c (sym c.in_default-split.is ∙ behind_first s)
 
-second : (c : In-At-split) → let k = c in
-    let a = c.args in
+second : (c : In-At-split) → let a = c.args in
     Cut a.b (behind dot a.x.now) c.in-At-split.m
 second c =
     let s = (goal.at.In-At-split c).After-split-2 in
@@ -95,7 +91,7 @@ returns-then-not-is c =
     third_wrong a.total a.a a.b a.x.now _ (first k) a.c _ (second m) (sym (judged (goal.at.returns-then-not-is c).After-is) ∙ c.if-not-is.true)
 
 pub overflow_add-n : goal.overflow_add-n
-overflow_add-n c = let m = (goal.at.overflow_add-n c).In-At in omega (arith, (first (goal.at.overflow_add-n c).In-At).sizes, (second (goal.at.overflow_add-n c).In-At-split).sizes)
+overflow_add-n c = omega (arith, (first (goal.at.overflow_add-n c).In-At).sizes, (second (goal.at.overflow_add-n c).In-At-split).sizes)
 
 pub returns : goal.returns
 returns c =

@@ -1,7 +1,6 @@
 -- Too many are none; else they are digits, and not none.
 use mathlib.Core.Path.{◌∙◌}
 use Rattle.identify.proofs.Components.{too_many, not_too_many}
-use borrow.Author.Rules.{rules}
 use Rattle.identify.proofs.form.is_up_to.Goals as goal
 
 pub returns-then-n-x : goal.returns-then-n-x

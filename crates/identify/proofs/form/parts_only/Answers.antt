@@ -1,7 +1,6 @@
-use Prim.Native.Nat.{◌-◌, ◌≤◌}
-use mathlib.Core.Path.{◌≡◌, refl, sym, ap, ◌∙◌}
+use mathlib.Core.Path.{refl, sym, ap, ◌∙◌}
 use native.Mathlib.Omega.{arith}
-use lib.ListN.{length, drop, length-drop, drop_of_length-le}
+use lib.ListN.{drop, length-drop, drop_of_length-le}
 use lib.Seq.{drop-drop}
 use Rattle.digits.proofs.Runs.{drop_next}
 use Rattle.identities.specs.Numbers.{parts_only}

@@ -5,7 +5,6 @@ use lib.ListN.{length, take}
 use Rattle.rules.specs.Bytes.{among, upto, dot}
 use Rattle.identities.specs.Numbers.{is}
 use Rattle.identify.proofs.Divided.{no_dot, a_dot, the_run}
-use borrow.Author.Rules.{rules}
 use Rattle.identify.proofs.form.split.Goals as goal
 use Rattle.identify.proofs.form.split.Goals.{After-is, Else-n-x}
 

@@ -12,7 +12,6 @@ use Rattle.digits.proofs.Runs.{drop_next}
 use Rattle.parts.proofs.Controls.{from_index}
 use Rattle.identities.specs.Grammar.{part_characters}
 use Rattle.identify.specs.Words.{opens_part}
-use borrow.Author.Rules.{rules}
 use Rattle.identify.proofs.form.width.Goals as goal
 
 -- The first byte, and the two escapes, from an index on.

@@ -16,7 +16,6 @@ use Rattle.text.proofs.Found as found
 use Rattle.identify.specs.Words.{fitting}
 use Rattle.identify.proofs.Pieces.{held_body, part_fits, part_not}
 use Rattle.scheme.proofs.Widths.{few_bits}
-use borrow.Author.Rules.{rules}
 use Rattle.identify.proofs.judge.asset.Goals as goal
 use Rattle.identify.proofs.judge.asset.Goals.{After-by_digits, In-Is}
 
@@ -24,7 +23,6 @@ use Rattle.identify.proofs.judge.asset.Goals.{After-by_digits, In-Is}
 there : (c : In-Is) → let x = c.args.x.now in
     Standing 0 Prefix x 0 c.in-Is.field-0 c.in-Is.n c.in-Is.next
 there c =
-    let p = c in
     stands 0 Prefix c.args.x.now 0 _ _ _ (sym c.in-Is.is ∙ c.part_at.ensures)
 
 -- it has six to twelve digits, and picks a row
@@ -40,7 +38,6 @@ row c = let (l, u) = digits (goal.at.After-by_digits c).In-Is in rw c.by_digits.
 
 pub is_integer-requires : goal.is_integer-requires
 is_integer-requires c =
-    let d = (goal.at.is_integer-requires c).In-Is in
     ((there (goal.at.is_integer-requires c).In-Is).within, omega (arith, c.asset.ensures, few_bits c.by_digits.result (row (goal.at.is_integer-requires c).After-by_digits)))
 
 pub returns-in-Is : goal.returns-in-Is

@@ -20,7 +20,6 @@ use Rattle.rules.specs.declared.Last.TheVariants.{Integer}
 use Rattle.parts.specs.declared.parts.Form.TheVariants.{AtMost}
 use Rattle.parts.specs.Parts.{form_of}
 use Rattle.scheme.proofs.Widths.{few_digits}
-use borrow.Author.Rules.{rules}
 use Rattle.identify.proofs.judge.component.Goals as goal
 use Rattle.identify.proofs.judge.component.Goals.{After-by_digits, In-Is}
 
@@ -28,7 +27,6 @@ use Rattle.identify.proofs.judge.component.Goals.{After-by_digits, In-Is}
 there : (c : In-Is) → let x = c.args.x.now in
     Standing 0 Prefix x 0 c.in-Is.field-0 c.in-Is.n c.in-Is.next
 there c =
-    let p = c in
     stands 0 Prefix c.args.x.now 0 _ _ _ (sym c.in-Is.is ∙ c.part_at.ensures)
 
 -- it has six to twelve digits, and picks a row
@@ -43,7 +41,7 @@ row : (c : After-by_digits) → c.by_digits.result < 7
 row c = let (l, u) = digits (goal.at.After-by_digits c).In-Is in rw c.by_digits.ensures (row_picked c.in-Is.n l u).0
 
 pub then_integer-requires : goal.then_integer-requires
-then_integer-requires c = let d = (goal.at.then_integer-requires c).In-Is in ((there (goal.at.then_integer-requires c).In-Is).within, omega (arith, ap (λ r. r.digits) c.reference-most.ensures, few_digits Cpi c.by_digits.result (row (goal.at.then_integer-requires c).After-by_digits)), lit≤ tt)
+then_integer-requires c = ((there (goal.at.then_integer-requires c).In-Is).within, omega (arith, ap (λ r. r.digits) c.reference-most.ensures, few_digits Cpi c.by_digits.result (row (goal.at.then_integer-requires c).After-by_digits)), lit≤ tt)
 
 pub returns-in-Is : goal.returns-in-Is
 returns-in-Is c =

@@ -9,7 +9,6 @@ use Rattle.text.proofs.Found.{Standing, stands}
 use Rattle.text.proofs.Found as found
 use Rattle.identify.specs.Words.{fits_in}
 use Rattle.identify.proofs.Pieces.{held_integers, part_fits, part_not}
-use borrow.Author.Rules.{rules}
 use Rattle.identify.proofs.judge.general.Goals as goal
 use Rattle.identify.proofs.judge.general.Goals.{In-Is}
 
@@ -17,7 +16,6 @@ use Rattle.identify.proofs.judge.general.Goals.{In-Is}
 there : (c : In-Is) → let x = c.args.x.now in
     Standing 0 (Integer 28) x 0 c.in-Is.field-0 c.in-Is.field-1 c.in-Is.next
 there c =
-    let p = c in
     stands 0 (Integer 28) c.args.x.now 0 _ _ _ (sym c.in-Is.is ∙ c.part_at.ensures)
 
 pub then_integer-requires : goal.then_integer-requires

@@ -9,7 +9,6 @@ use Rattle.identities.specs.declared.Family.{Family}
 use Rattle.identities.specs.declared.Family.TheVariants.{Giai, Cpi, Gid, Sgtin, Sscc, Sgln, Grai, Gsrn, Gsrnp, Gdti, Sgcn}
 use Rattle.identities.specs.Families.{about, short}
 use Rattle.identify.specs.Words.{held}
-use borrow.Author.Rules.{rules}
 use Rattle.identify.proofs.judge.is_held.Goals as goal
 
 arm : (g : Family) (x : List ℕ) {f : Family} {b : Bool} → f ≡ g → b ≡ held x (short g) → b ≡ held x (short f)

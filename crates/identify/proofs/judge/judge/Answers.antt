@@ -3,7 +3,6 @@ use mathlib.Core.Path.{sym, ap, ◌∙◌}
 use mathlib.Core.List.{◌∷◌, []}
 use Rattle.identify.specs.Words.{total_of, components_of, total_in}
 use Rattle.identify.proofs.Judgements.{padded_first}
-use borrow.Author.Rules.{rules}
 use Rattle.identify.proofs.judge.judge.Goals as goal
 
 pub two-requires : goal.two-requires

@@ -8,7 +8,6 @@ use Rattle.text.proofs.Found.{Standing, stands}
 use Rattle.text.proofs.Found as found
 use Rattle.identify.specs.Words.{fitting}
 use Rattle.identify.proofs.Pieces.{part_fits, part_not}
-use borrow.Author.Rules.{rules}
 use Rattle.identify.proofs.judge.then_integer.Goals as goal
 use Rattle.identify.proofs.judge.then_integer.Goals.{In-Is}
 
@@ -16,7 +15,6 @@ use Rattle.identify.proofs.judge.then_integer.Goals.{In-Is}
 there : (c : In-Is) → let a = c.args in
     Standing 0 a.form a.x.now a.at c.in-Is.field-0 c.in-Is.field-1 c.in-Is.next
 there c =
-    let p = c in
     let a = c.args in
     stands 0 a.form a.x.now a.at _ _ _ (sym c.in-Is.is ∙ c.part_at.ensures)
 

@@ -2,7 +2,6 @@
 use mathlib.Core.Path.{sym, ap, ◌∙◌}
 use Rattle.identify.specs.declared.counted.Verdict.TheVariants.{By}
 use Rattle.identify.proofs.Holders.{held_alone, unheld_alone, wrong_alone}
-use borrow.Author.Rules.{rules}
 use Rattle.identify.proofs.judge.uncounted.Goals as goal
 
 pub returns-then-is_held : goal.returns-then-is_held

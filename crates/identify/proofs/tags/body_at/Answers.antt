@@ -4,7 +4,6 @@ use Rattle.rules.specs.Schemes.{about}
 use Rattle.rules.proofs.Lengths.{control_length}
 use Rattle.text.proofs.Rooms.{label_short}
 use Rattle.identities.proofs.Lengths.{filter_length}
-use borrow.Author.Rules.{rules}
 use Rattle.identify.proofs.tags.body_at.Goals as goal
 
 pub overflow_add-result : goal.overflow_add-result

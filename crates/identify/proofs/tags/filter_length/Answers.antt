@@ -2,7 +2,6 @@
 use mathlib.Core.Path.{sym, ap, ◌∙◌}
 use lib.ListN.{length}
 use Rattle.identities.specs.Numbers.{filter_text}
-use borrow.Author.Rules.{rules}
 use Rattle.identify.proofs.tags.filter_length.Goals as goal
 
 pub returns-in-F : goal.returns-in-F

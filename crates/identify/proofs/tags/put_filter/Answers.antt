@@ -3,11 +3,9 @@ use Prim.Native.Nat.{ℕ}
 use mathlib.Core.Path.{◌≡◌, sym, ap, ◌∙◌}
 use mathlib.Core.List.{List}
 use Rattle.rules.specs.declared.Parts.{Parts}
-use Rattle.rules.specs.Schemes.{about}
 use Rattle.digits.specs.Pieces.{Puts}
 use Rattle.digits.proofs.Joins.{nothing_put}
 use Rattle.identities.specs.Numbers.{filter_text}
-use borrow.Author.Rules.{rules}
 use Rattle.identify.proofs.tags.put_filter.Goals as goal
 
 arm : {q p : Parts} (f : ℕ) {at n : ℕ} {l m : List ℕ} → q ≡ p → Puts (filter_text p f) at l n m → Puts (filter_text q f) at l n m

@@ -5,7 +5,6 @@ use Rattle.rules.specs.Grammar.{start}
 use Rattle.digits.proofs.Joins.{join}
 use Rattle.text.proofs.Rooms.{label_short}
 use Rattle.identities.proofs.Lengths.{filter_length}
-use borrow.Author.Rules.{rules}
 use Rattle.identify.proofs.tags.put_text.Goals as goal
 
 pub put_filter-parts-requires : goal.put_filter-parts-requires

@@ -1,7 +1,5 @@
 -- Each byte that is looked at says that the field does not stand, or that it may; the value says the rest.
 use mathlib.Core.Path.{sym, ◌∙◌}
-use borrow.Author.Rules.{rules}
-use borrow.Author.Tests.{not-true, not-false}
 use Rattle.parts.proofs.Controls.{att_short, att_other, att_unbracketed, att_undigited, att_stands}
 use Rattle.parts.proofs.control.att_at.Goals as goal
 

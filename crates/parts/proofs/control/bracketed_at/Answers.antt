@@ -1,5 +1,4 @@
 -- Each field is read where the one before it ends; then the text ends, or goes on with a colon or not.
-use borrow.Author.Rules.{rules}
 use Rattle.parts.proofs.FieldsInText.{umi_inside, text_ends, no_colon, a_colon}
 use Rattle.parts.proofs.control.bracketed_at.Goals as goal
 

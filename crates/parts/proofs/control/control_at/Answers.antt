@@ -1,6 +1,5 @@
 -- A bracket, or none.
 use mathlib.Core.Path.{◌∙◌}
-use borrow.Author.Rules.{rules}
 use Rattle.parts.proofs.FieldsInText.{at_the_end, no_bracket, a_bracket}
 use Rattle.parts.proofs.control.control_at.Goals as goal
 

@@ -1,5 +1,4 @@
 -- Each name has its reader.
-use borrow.Author.Rules.{rules}
 use Rattle.parts.proofs.control.field_at.Goals as goal
 
 pub returns-in-Umi : goal.returns-in-Umi

@@ -1,5 +1,4 @@
 -- Each digit has a value below 16, or is none.
-use borrow.Author.Rules.{rules}
 use borrow.Author.Tests.{lt-ltb, le-ltb}
 use Rattle.parts.proofs.control.two_digits.Goals as goal
 

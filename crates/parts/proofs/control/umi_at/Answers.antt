@@ -1,7 +1,5 @@
 -- The seven characters stand at the index, or they don't.
 use mathlib.Core.Path.{◌∙◌}
-use borrow.Author.Rules.{rules}
-use borrow.Author.Tests.{not-true, not-false}
 use Rattle.parts.proofs.Controls.{umi_stands, umi_absent}
 use Rattle.parts.proofs.control.umi_at.Goals as goal
 

@@ -1,7 +1,6 @@
 -- `by_key` meets its contract: each key is the rest of the name that its scheme alone has, and in the default there is no such scheme.
 use Prim.Native.Nat.{ℕ}
 use mathlib.Core.Path.{◌≡◌, sym, ap, ◌∙◌}
-use borrow.Author.Rules.{rules}
 use borrow.Author.Tests.{ne_eqb}
 use lib.ListN.{length}
 use Rattle.numeral.specs.Numeral.{value}

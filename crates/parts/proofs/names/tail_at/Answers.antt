@@ -1,13 +1,9 @@
-use mathlib.Core.Path.{◌≡◌, sym}
-use Prim.Native.Nat.{◌+◌, ◌-◌, ◌^◌, ◌≤◌, ◌<◌}
+use mathlib.Core.Path.{sym}
+use Prim.Native.Nat.{◌+◌, ◌^◌, ◌<◌}
 use native.Mathlib.Omega.{arith}
-use lib.Dec.{T}
-use lib.ListN.{length, take, drop, get_or}
+use lib.ListN.{drop, get_or}
 use borrow.Author.Rules.{rules}
-use Rattle.numeral.specs.Numeral.{value}
 use Rattle.numeral.proofs.Values.{value_nil, digits_of_lem, digits_drop}
-use Rattle.rules.specs.Bytes.{colon}
-use Rattle.rules.proofs.Runs.{without}
 use Rattle.parts.proofs.Tails.{seven_fit, next_value, found, at_the_end, more, too_long}
 use Rattle.parts.proofs.names.tail_at.Goals as goal
 use Rattle.parts.proofs.names.tail_at.Goals.{Else-n-eq-MOST_BYTES}

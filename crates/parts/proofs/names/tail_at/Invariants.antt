@@ -1,15 +1,11 @@
 -- `tail_at` meets its contract. The loop's invariant: n bytes are passed, none of them a colon, and v is the number that they are.
-use mathlib.Core.Path.{◌≡◌, sym}
-use Prim.Native.Nat.{◌+◌, ◌-◌, ◌^◌, ◌≤◌, ◌<◌}
-use native.Mathlib.Omega.{arith}
+use mathlib.Core.Path.{◌≡◌}
+use Prim.Native.Nat.{◌-◌, ◌≤◌}
 use lib.Dec.{T}
-use lib.ListN.{length, take, drop, get_or}
-use borrow.Author.Rules.{rules}
+use lib.ListN.{length, take, drop}
 use Rattle.numeral.specs.Numeral.{value}
-use Rattle.numeral.proofs.Values.{value_nil, digits_of_lem, digits_drop}
 use Rattle.rules.specs.Bytes.{colon}
 use Rattle.rules.proofs.Runs.{without}
-use Rattle.parts.proofs.Tails.{seven_fit, next_value, found, at_the_end, more, too_long}
 use Rattle.parts.proofs.names.tail_at.Given as goal
 
 abbrev pub invariant-loop-n : goal.invariant-loop-n

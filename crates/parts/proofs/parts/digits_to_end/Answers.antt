@@ -1,5 +1,4 @@
 -- `digits_to_end` meets its contract: the run must reach the end and have n digits.
-use borrow.Author.Rules.{rules}
 use Rattle.parts.proofs.Ends.{digits_behind, digits_other, digits_end}
 use Rattle.parts.proofs.parts.digits_to_end.Goals as goal
 

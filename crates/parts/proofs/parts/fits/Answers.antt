@@ -1,6 +1,5 @@
 -- `fits` meets its contract, form by form.
 use mathlib.Core.Path.{◌∙◌}
-use borrow.Author.Rules.{rules}
 use borrow.Author.Tests.{lt-leb, le-leb}
 use Rattle.parts.specs.Parts.{plainly}
 use Rattle.parts.proofs.Fitting.{and_true, and_false}

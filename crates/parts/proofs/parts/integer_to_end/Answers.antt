@@ -2,7 +2,6 @@
 use Prim.Native.Nat.{◌<◌}
 use mathlib.Core.Path.{◌∙◌}
 use native.Mathlib.Omega.{arith}
-use borrow.Author.Rules.{rules}
 use Rattle.parts.proofs.Ends.{integer_none, integer_behind, integer_end}
 use Rattle.parts.proofs.parts.integer_to_end.Goals as goal
 

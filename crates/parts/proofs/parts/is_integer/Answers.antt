@@ -1,5 +1,4 @@
 -- `is_integer` meets its contract: the form, then the size.
-use borrow.Author.Rules.{rules}
 use mathlib.Core.Path.{sym, ◌∙◌}
 use Rattle.parts.proofs.Fitting.{small}
 use Rattle.parts.proofs.parts.is_integer.Goals as goal

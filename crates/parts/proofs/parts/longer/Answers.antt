@@ -1,7 +1,5 @@
 -- `longer` meets its contract: the rest is all digits or not, the first digit a zero or not.
 use mathlib.Core.Path.{sym, ◌∙◌}
-use borrow.Author.Rules.{rules}
-use borrow.Author.Tests.{not-true, not-false}
 use Rattle.parts.proofs.parts.longer.Goals as goal
 
 pub returns-then-not-all_digits : goal.returns-then-not-all_digits

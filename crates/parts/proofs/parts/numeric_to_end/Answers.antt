@@ -1,6 +1,5 @@
 -- `numeric_to_end` meets its contract: a run that ends before the text's end is judged by all that is left, another by its length.
 use mathlib.Core.Path.{◌∙◌}
-use borrow.Author.Rules.{rules}
 use Rattle.parts.proofs.Ends.{numeric_behind, numeric_none, numeric_long, numeric_end}
 use Rattle.parts.proofs.parts.numeric_to_end.Goals as goal
 

@@ -1,7 +1,6 @@
 -- `shorter` meets its contract: the form, then the size.
 use mathlib.Core.Path.{sym, ◌∙◌}
-use borrow.Author.Rules.{rules}
-use borrow.Author.Tests.{eq-eqb, ne_eqb, not-true, not-false}
+use borrow.Author.Tests.{eq-eqb, ne_eqb}
 use Rattle.parts.proofs.Fitting.{small}
 use Rattle.parts.proofs.parts.shorter.Goals as goal
 

@@ -4,7 +4,6 @@ use Prim.Native.Char.{code}
 use mathlib.Core.Path.{◌≡◌, ap}
 use native.Mathlib.Omega.{arith}
 use lib.ListN.{length, set, length-set}
-use borrow.Author.Rules.{rules}
 use borrow.Rule.Slice.PartMut.{put_mid}
 use Rattle.rules.specs.BankNumbers.{tag_of_bank}
 use Rattle.replies.specs.Replies.{space, of_bank, RefusedWith}
@@ -16,21 +15,17 @@ use Rattle.replies.proofs.choice.bank_reply.Goals.{In-Refused, In-Written}
 -- the text and the letter are written
 shown : (c : In-Written) → let n = c.in-Written.n in
     let e = c.bank_to_text.new.out in
-    let s = c in
     let l = c.args.out.now in
     (n ≤ 116) × Wrote (of_bank c.args.bank.now (tag_of_bank c.args.bank.now)) l (n + 2) (set (set (put_mid 2 (length l - 2) l e) 0 (code "T")) 1 space)
 shown c =
     let text = c.bank_to_text in
-    let s = c in
     text_shown c.args.bank.now c.args.out.now text.new.out c.in-Written.n c.requires _ (rw c.in-Written.is at text.ensures)
 
 hidden : (c : In-Refused) → let n = c.in-Refused.number in
     let e = c.bank_to_text.new.out in
-    let s = c in
     RefusedWith c.args.bank.now n × (put_mid 2 (length c.args.out.now - 2) c.args.out.now e ≡ c.args.out.now)
 hidden c =
     let text = c.bank_to_text in
-    let s = c in
     text_hidden c.args.bank.now c.args.out.now text.new.out c.in-Refused.number c.requires _ (rw c.in-Refused.is at text.ensures)
 
 pub refused_reply-requires : goal.refused_reply-requires

@@ -3,8 +3,6 @@ use Prim.Native.Nat.{◌/◌, ◌≤◌}
 use mathlib.Core.Path.{◌≡◌, refl, sym, ◌∙◌}
 use mathlib.Core.Bool.{true}
 use lib.ListN.{length, take}
-use borrow.Author.Rules.{rules}
-use borrow.Author.Tests.{not-true, not-false}
 use Rattle.replies.specs.Hex.{is_bank, bytes_in}
 use Rattle.replies.proofs.Hexes.{bank_fits, bank_read}
 use Rattle.replies.proofs.choice.hex_reply.Goals as goal
@@ -26,7 +24,6 @@ read : (c : After-bank-2-1) → let l = c.args.line.now in
     let e = c.read.new.bank in
     (length l / 2 ≤ length e) × (length l / 2 ≡ length (take (length l / 2) e)) × (take (length l / 2) e ≡ bytes_in l)
 read c =
-    let r = c in
     let e = (goal.at.After-bank-2-1 c).Else-not-is_bank in
     bank_read c.args.line.now (is_bank_lem e) _ c.read.new.bank refl c.read.ensures
 

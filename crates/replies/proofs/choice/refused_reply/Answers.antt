@@ -3,7 +3,6 @@ use Prim.Native.Nat.{◌+◌, ◌≤◌}
 use mathlib.Core.Path.{◌≡◌, ◌∙◌}
 use native.Mathlib.Omega.{arith}
 use lib.ListN.{set, length-set}
-use borrow.Author.Rules.{rules}
 use Rattle.rules.specs.BankNumbers.{tag_of_bank}
 use Rattle.replies.specs.Replies.{space, of_bank}
 use Rattle.replies.specs.Writing.{Wrote, after_number}
@@ -14,12 +13,10 @@ use Rattle.replies.proofs.choice.refused_reply.Goals.{After-slice_known-in-Writt
 -- the raw line, the letter and the number are written
 shown : (c : After-slice_known-in-Written-1) → let put = c.put_number-end in
     let n = c.in-Written.n in
-    let s = c in
     (n ≤ 145) × (put.result ≡ 4) × Wrote (of_bank c.args.bank.now (tag_of_bank c.args.bank.now)) c.args.out.now (n + after_number) (set put.new.out put.result space)
 shown c =
     let put = c.put_number-end in
     let raw = c.raw_line in
-    let s = c in
     raw_shown c.args.bank.now c.args.out.now raw.new.out c.in-Written.n c.requires.1 c.args.number put.result put.new.out c.requires.0 _
     (rw c.in-Written.is at raw.ensures) put.ensures
 

@@ -18,12 +18,10 @@ returns-then-line-gt-MOST_CHARACTERS c =
     rw (lt-leb (length c.args.line.now) most_characters (search rules)) c.put_neither.ensures
 
 -- the bank that was written, from the place where its length is known
-wrote : (c : In-Written) → let b = c in
-    let n = c.in-Written.n in
+wrote : (c : In-Written) → let n = c.in-Written.n in
     let e = c.text_to_bank.new.out in
     (n ≤ bank_room) × (n ≡ length (take n e)) × (of_text (tag_of_text c.args.line.now) ≡ reply_b (take n e))
 wrote c =
-    let b = c in
     bank_written c.args.line.now _ c.text_to_bank.new.out c.in-Written.n (lit≤ tt) _ (rw c.in-Written.is at c.text_to_bank.ensures)
 
 pub slice_bounds-bank-end : goal.slice_bounds-bank-end

@@ -1,6 +1,5 @@
 -- The start of the line decides.
 use mathlib.Core.Path.{sym, ◌∙◌}
-use borrow.Author.Rules.{rules}
 use Rattle.replies.specs.Replies.{tagline_reply}
 use Rattle.replies.proofs.choice.write.Goals as goal
 

@@ -1,12 +1,6 @@
-use Prim.Native.Nat.{ℕ, ◌-◌, ◌≤◌}
-use mathlib.Core.Path.{◌≡◌, refl, sym, ◌∙◌}
-use mathlib.Core.List.{List}
-use mathlib.Core.Bool.{◌&&◌}
+use mathlib.Core.Path.{refl, sym, ◌∙◌}
 use native.Mathlib.Omega.{arith}
-use lib.Dec.{eqb}
-use lib.ListN.{length, drop}
 use borrow.Author.Rules.{rules}
-use Rattle.rules.specs.Bytes.{all}
 use Rattle.replies.specs.Hex.{is_hex}
 use Rattle.digits.proofs.Alls.{passed_still, passed_worse, passed_all}
 use Rattle.replies.proofs.hex.all_hex.Goals as goal
@@ -19,8 +13,9 @@ pub loop-i-preserved : goal.loop-i-preserved
 loop-i-preserved c =
     let w = c.not_hex-w in
     elim c.if-wrong-w.branch [
-      then-wrong-w t ↦ (search rules, rw t.wrong-is (passed_worse is_hex c.args.line.now _ c.loop-i.i c.loop-i.wrong w.result (omega arith) c.loop-i.invariant.1 w.ensures t.if-wrong-w.true))
-    | else-wrong-w t ↦ (search rules, rw t.wrong-is (passed_still is_hex c.args.line.now _ c.loop-i.i c.loop-i.wrong w.result (omega arith) c.loop-i.invariant.1 w.ensures t.if-wrong-w.false)) ]
+      | then-wrong-w t ↦ (search rules, rw t.wrong-is (passed_worse is_hex c.args.line.now _ c.loop-i.i c.loop-i.wrong w.result (omega arith) c.loop-i.invariant.1 w.ensures t.if-wrong-w.true))
+      | else-wrong-w t ↦ (search rules, rw t.wrong-is (passed_still is_hex c.args.line.now _ c.loop-i.i c.loop-i.wrong w.result (omega arith) c.loop-i.invariant.1 w.ensures t.if-wrong-w.false))
+    ]
 
 pub returns : goal.returns
 returns c =

@@ -1,6 +1,5 @@
 -- Each test is one of the definition's.
 use mathlib.Core.Path.{◌∙◌, sym}
-use borrow.Author.Rules.{rules}
 use borrow.Author.Tests.{lt-leb, le-leb, eq-eqb, ne_eqb}
 use Rattle.replies.specs.Hex.{is_bank}
 use Rattle.replies.proofs.hex.is_bank.Goals as goal

@@ -1,14 +1,13 @@
-use Prim.Native.Nat.{ℕ, ◌<◌, ◌+◌, ◌-◌, ◌*◌, ◌≤◌}
-use mathlib.Core.Path.{◌≡◌, sym, ap, ◌∙◌}
-use mathlib.Core.List.{List}
+use Prim.Native.Nat.{ℕ, ◌<◌, ◌+◌, ◌*◌}
+use mathlib.Core.Path.{sym, ap, ◌∙◌}
 use native.Mathlib.Omega.{arith}
-use lib.ListN.{length, take, get_or, length-set}
+use lib.ListN.{length, get_or, length-set}
 use lib.Dec.{T}
 use borrow.Author.Rules.{rules}
 use Rattle.numeral.specs.Numeral.{splice}
 use Rattle.numeral.proofs.Splices.{splice_nil}
 use Rattle.rules.proofs.Tests.{all_at}
-use Rattle.replies.specs.Hex.{is_hex, bytes_in}
+use Rattle.replies.specs.Hex.{is_hex}
 use Rattle.replies.proofs.Hexes.{value_lt, read_more, read_whole}
 use Rattle.replies.proofs.hex.read.Goals as goal
 use Rattle.replies.proofs.hex.read.Goals.{At-loop-i}
@@ -36,14 +35,13 @@ overflow_add-bank c =
     omega (arith, c.value.ensures, c.value-in-loop-i.ensures, value_lt _ (digit a (2 * c.loop-i.i) (omega arith)), value_lt _ (digit a (2 * c.loop-i.i + 1) (omega arith)))
 
 pub loop-i-preserved : goal.loop-i-preserved
-loop-i-preserved c =
-    (
-      search rules,
-      search rules,
-      search rules,
-      simp length-set (omega arith),
-      rw (c.value.ensures, c.value-in-loop-i.ensures, c.loop-i.invariant.4) (read_more c.args.bank.now c.args.line.now c.loop-i.i (omega arith) (omega arith)),
-    )
+loop-i-preserved c = (
+  search rules,
+  search rules,
+  search rules,
+  simp length-set (omega arith),
+  rw (c.value.ensures, c.value-in-loop-i.ensures, c.loop-i.invariant.4) (read_more c.args.bank.now c.args.line.now c.loop-i.i (omega arith) (omega arith)),
+)
 
 pub returns : goal.returns
 returns c =

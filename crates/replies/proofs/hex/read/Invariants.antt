@@ -1,16 +1,9 @@
 -- The invariant: the first i bytes are written.
-use Prim.Native.Nat.{ℕ, ◌<◌, ◌+◌, ◌-◌, ◌*◌, ◌≤◌}
-use mathlib.Core.Path.{◌≡◌, sym, ap, ◌∙◌}
-use mathlib.Core.List.{List}
-use native.Mathlib.Omega.{arith}
-use lib.ListN.{length, take, get_or, length-set}
-use lib.Dec.{T}
-use borrow.Author.Rules.{rules}
+use Prim.Native.Nat.{◌-◌, ◌*◌, ◌≤◌}
+use mathlib.Core.Path.{◌≡◌}
+use lib.ListN.{length, take}
 use Rattle.numeral.specs.Numeral.{splice}
-use Rattle.numeral.proofs.Splices.{splice_nil}
-use Rattle.rules.proofs.Tests.{all_at}
-use Rattle.replies.specs.Hex.{is_hex, bytes_in}
-use Rattle.replies.proofs.Hexes.{value_lt, read_more, read_whole}
+use Rattle.replies.specs.Hex.{bytes_in}
 use Rattle.replies.proofs.hex.read.Given as goal
 
 abbrev pub invariant-loop-i : goal.invariant-loop-i

@@ -1,5 +1,4 @@
 -- The sixteen digits are computed.
-use borrow.Author.Rules.{rules}
 use Rattle.replies.proofs.Hexes.{value_is}
 use Rattle.replies.proofs.hex.value.Goals as goal
 

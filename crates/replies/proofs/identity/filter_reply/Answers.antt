@@ -2,8 +2,6 @@
 use mathlib.Core.Path.{◌≡◌, sym, ◌∙◌}
 use mathlib.Core.Bool.{true}
 use native.Mathlib.Omega.{arith}
-use borrow.Author.Rules.{rules}
-use borrow.Author.Tests.{not-true, not-false}
 use Rattle.replies.specs.Identities.{has_filter}
 use Rattle.replies.proofs.Filters.{behind, Filtered, filtered}
 use Rattle.replies.proofs.identity.filter_reply.Goals as goal

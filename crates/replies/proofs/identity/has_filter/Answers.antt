@@ -1,7 +1,5 @@
 -- The tests are made in turn.
 use mathlib.Core.Path.{sym, ◌∙◌}
-use borrow.Author.Rules.{rules}
-use borrow.Author.Tests.{not-true, not-false}
 use Rattle.replies.proofs.Filters.{too_short, no_digit, no_space, text_begins}
 use Rattle.replies.proofs.identity.has_filter.Goals as goal
 

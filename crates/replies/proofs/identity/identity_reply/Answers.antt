@@ -4,7 +4,6 @@ use Prim.Native.Char.{code}
 use mathlib.Core.Path.{◌≡◌}
 use native.Mathlib.Omega.{arith}
 use lib.ListN.{length, set, length-set}
-use borrow.Author.Rules.{rules}
 use borrow.Rule.Slice.PartMut.{put_mid}
 use Rattle.identities.specs.Numbers.{tag_of_identity}
 use Rattle.replies.specs.Replies.{space, reply_n}
@@ -17,22 +16,18 @@ use Rattle.replies.proofs.identity.identity_reply.Goals.{In-Refused, In-Written}
 -- the tag text and the letter are written
 shown : (c : In-Written) → let n = c.in-Written.n in
     let e = c.identity_to_tag.new.out in
-    let s = c in
     let l = c.args.out.now in
     (n ≤ 116) × Wrote (of_identity (tag_of_identity c.args.filter c.args.text.now)) l (n + 2) (set (set (put_mid 2 (length l - 2) l e) 0 (code "T")) 1 space)
 shown c =
     let call = c.identity_to_tag in
-    let s = c in
     tag_shown c.args.out.now call.new.out c.in-Written.n c.requires c.args.filter c.args.text.now _ (rw c.in-Written.is at call.ensures)
 
 -- nothing is written
 hidden : (c : In-Refused) → let n = c.in-Refused.number in
     let e = c.identity_to_tag.new.out in
-    let s = c in
     (of_identity (tag_of_identity c.args.filter c.args.text.now) ≡ reply_n n) × (put_mid 2 (length c.args.out.now - 2) c.args.out.now e ≡ c.args.out.now)
 hidden c =
     let call = c.identity_to_tag in
-    let s = c in
     tag_hidden c.args.out.now call.new.out c.in-Refused.number c.requires c.args.filter c.args.text.now _ (rw c.in-Refused.is at call.ensures)
 
 pub returns-in-Refused : goal.returns-in-Refused

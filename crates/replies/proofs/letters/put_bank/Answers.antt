@@ -2,7 +2,6 @@
 use mathlib.Core.Path.{◌∙◌}
 use native.Mathlib.Omega.{arith}
 use lib.ListN.{length-set}
-use borrow.Author.Rules.{rules}
 use Rattle.rules.specs.Bytes.{hex_text}
 use Rattle.digits.proofs.Texts.{length_hex}
 use Rattle.replies.proofs.Pieces.{lettered}

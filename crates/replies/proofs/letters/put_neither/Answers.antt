@@ -1,6 +1,5 @@
 -- One byte is stored.
 use mathlib.Core.Path.{refl, sym}
-use borrow.Author.Rules.{rules}
 use Rattle.numeral.proofs.Splices.{splice_one}
 use Rattle.replies.proofs.letters.put_neither.Goals as goal
 

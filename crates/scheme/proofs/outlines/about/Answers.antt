@@ -1,6 +1,5 @@
 -- `about` meets its contract: at each variant the table's columns are computed.
 use mathlib.Core.Path.{sym, ap}
-use borrow.Author.Rules.{rules}
 use Rattle.scheme.specs.Outlines.{outline_of}
 use Rattle.scheme.proofs.outlines.about.Goals as goal
 

@@ -1,6 +1,5 @@
 -- The place is what the conversion gives.
 use mathlib.Core.Path.{ap, ◌∙◌}
-use borrow.Author.Rules.{rules}
 use Rattle.scheme.specs.Records.{refusal}
 use Rattle.scheme.proofs.record.refused_at.Goals as goal
 

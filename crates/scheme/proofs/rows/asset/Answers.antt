@@ -1,7 +1,6 @@
 -- `asset` meets its contract: what the prefix leaves of table E's sum.
 use mathlib.Core.Path.{◌≡◌, ap}
 use native.Mathlib.Omega.{arith}
-use borrow.Author.Rules.{rules}
 use Rattle.rules.specs.Schemes.{row_at, prefix_bits}
 use Rattle.rules.proofs.Rows.{narrow_row}
 use Rattle.scheme.proofs.Sums.{asset_sum}

@@ -1,5 +1,4 @@
 -- `by_digits` meets its contract: the row of n digits is the one of partition value 12 - n.
-use borrow.Author.Rules.{rules}
 use Rattle.scheme.proofs.Sums.{digits_pick}
 use Rattle.scheme.proofs.rows.by_digits.Goals as goal
 

@@ -2,7 +2,6 @@
 use Prim.Native.Nat.{◌+◌}
 use mathlib.Core.Path.{◌≡◌}
 use native.Mathlib.Omega.{arith}
-use borrow.Author.Rules.{rules}
 use Rattle.rules.specs.Schemes.{row_at, prefix_digits}
 use Rattle.scheme.proofs.Sums.{same_cell, twelve, Rounded, rounded}
 use Rattle.scheme.proofs.rows.prefix.Goals as goal

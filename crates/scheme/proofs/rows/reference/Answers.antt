@@ -1,5 +1,4 @@
 -- `reference` meets its contract: what the prefix leaves of its table's sum.
-use borrow.Author.Rules.{rules}
 use Rattle.scheme.proofs.Sums.{Left, reference_left}
 use Rattle.scheme.proofs.rows.reference.Goals as goal
 use Rattle.scheme.proofs.rows.reference.Goals.{After-prefix-company}

@@ -1,5 +1,4 @@
 -- `sum_of` meets its contract: the inner rules say each table's sum of every row.
-use borrow.Author.Rules.{rules}
 use Rattle.scheme.proofs.Sums.{in_rows, sum_a, sum_b, sum_c, sum_d, sum_cpi}
 use Rattle.scheme.proofs.rows.sum_of.Goals as goal
 

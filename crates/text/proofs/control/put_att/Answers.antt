@@ -1,6 +1,5 @@
 -- Nothing, or three pieces: what stands before the digits, the digits, and the bracket.
 use mathlib.Core.Path.{refl}
-use borrow.Author.Rules.{rules}
 use Rattle.rules.specs.declared.ControlName.TheVariants.{Att}
 use Rattle.digits.proofs.Joins.{join}
 use Rattle.text.proofs.Fields.{zero_put, standing_is}

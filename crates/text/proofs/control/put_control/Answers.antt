@@ -1,9 +1,8 @@
 -- Both fields, and the colon where one of them stands.
 use mathlib.Core.Path.{◌≡◌}
-use mathlib.Core.Logic.{◌⊎◌, inl, inr, ⊎_elim}
+use mathlib.Core.Logic.{◌⊎◌, inl, inr}
 use native.Mathlib.Omega.{arith}
-use borrow.Author.Rules.{rules}
-use borrow.Author.Tests.{eqb-true, eqb-false}
+use borrow.Author.Tests.{eqb-true}
 use Rattle.digits.proofs.Joins.{join, nothing_put}
 use Rattle.digits.specs.Pieces.{Puts}
 use Rattle.rules.specs.ControlFields.{fields_text}
@@ -17,7 +16,7 @@ returns-then-control-eq0-2 c =
     record { puts = rw (none_stands c.args.control c.if-control-eq0.true (eqb-true c.args.control.att 0 c.if-control-eq0-2.true-raw)) (nothing_put c.args.out.now c.args.at); upper_bound = omega arith }
 
 -- where the fields are written one of them is not zero
-one : (c : Joined-else-control-eq0) → let s = c in (¬ (c.args.control.umi ≡ 0)) ⊎ (¬ (c.args.control.att ≡ 0))
+one : (c : Joined-else-control-eq0) → (¬ (c.args.control.umi ≡ 0)) ⊎ (¬ (c.args.control.att ≡ 0))
 one c = elim c.else-control-eq0.branch [ else-control-eq0-via-then-control-eq0+else-control-eq0-2 w ↦ inr w.if-control-eq0-2.false | else-control-eq0-via-else-control-eq0 w ↦ inl w.if-control-eq0.false ]
 
 pub put_field-end-requires : goal.put_field-end-requires
@@ -25,8 +24,7 @@ put_field-end-requires c =
     (c.requires.0.1, omega (arith, c.put_field-p.ensures.end, umi_length c.args.control.umi, c.put_field-p.auto.out, c.requires.1))
 
 -- both fields, from the place where the second is written
-fields : (c : After-put_field-end) → let s = c in
-    Puts (fields_text c.args.control) c.args.at c.args.out.now c.put_field-end.result c.put_field-end.new.out
+fields : (c : After-put_field-end) → Puts (fields_text c.args.control) c.args.at c.args.out.now c.put_field-end.result c.put_field-end.new.out
 fields c = join c.put_field-p.ensures c.put_field-end.ensures
 
 pub put_bytes-requires : goal.put_bytes-requires

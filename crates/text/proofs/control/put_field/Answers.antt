@@ -1,6 +1,5 @@
 -- Each name has its writer.
 use native.Mathlib.Omega.{arith}
-use borrow.Author.Rules.{rules}
 use Rattle.text.proofs.control.put_field.Goals as goal
 
 pub put_umi-requires : goal.put_umi-requires

@@ -1,5 +1,4 @@
 -- Nothing, or the seven bytes.
-use borrow.Author.Rules.{rules}
 use Rattle.rules.specs.declared.ControlName.TheVariants.{Umi}
 use Rattle.text.proofs.Fields.{zero_put, umi_is}
 use Rattle.text.proofs.control.put_umi.Goals as goal

@@ -1,7 +1,6 @@
 -- `asset_alone` meets its contract: the last part is the reference, or its refusal is the answer.
 use mathlib.Core.Path.{◌∙◌}
 use lib.ListN.{drop}
-use borrow.Author.Rules.{rules}
 use Rattle.rules.specs.Schemes.{integer}
 use Rattle.rules.specs.TextNumbers.{last_in}
 use Rattle.text.proofs.Lasts.{asset}

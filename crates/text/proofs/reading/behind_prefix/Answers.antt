@@ -2,7 +2,6 @@
 use Prim.Native.Nat.{◌<◌}
 use mathlib.Core.Path.{◌≡◌, sym, ap, ◌∙◌}
 use native.Mathlib.Omega.{arith}
-use borrow.Author.Rules.{rules}
 use lib.ListN.{drop}
 use Rattle.rules.specs.declared.Last.{Last}
 use Rattle.rules.specs.declared.Body.TheVariants.{Then}
@@ -23,7 +22,6 @@ use Rattle.text.proofs.reading.behind_prefix.Goals.{After-by_digits, After-refer
 -- the limits of a last part, once it is known
 limits : (form : After-reference_form-reference) {l : Last} → form.in-Then.l ≡ l → Narrow (F (Then form.in-Then.t l))
 limits form e =
-    let body = form in
     rw (form.in-Then.is, e) at form.requires.1
 
 pub with_integer-requires : goal.with_integer-requires
@@ -38,13 +36,11 @@ with_numeric-requires c =
 
 -- the reference has the form of the row's digits
 of_row : (form : After-reference_form-reference) (l : Last) (g : Form)
-    → let body = form in
-    let t = form.in-Then.t in
+    → let t = form.in-Then.t in
     let x = form.args in
     with_last x.head l (parts_in x.at (referred (form_of form.reference_form-reference.result) g) (drop x.at x.text.now))
     ≡ with_last x.head l (parts_in x.at (referred (counted t (cell t (row_of x.head.digits)).0 form.reference_digits.result) g) (drop x.at x.text.now))
 of_row form l g =
-    let body = form in
     let t = form.in-Then.t in
     let x = form.args in
     row_behind x.head l t x.at (cell t (row_of x.head.digits)).0 form.reference_digits.result (form_of form.reference_form-reference.result) g (drop x.at x.text.now) form.reference_form-reference.ensures.result_value
@@ -81,7 +77,6 @@ returns-in-Zeros c =
 -- the reference of table E
 row : (c : After-by_digits) → c.by_digits.result < 7
 row c =
-    let s = c in
     rw c.by_digits.ensures (row_picked c.args.head.digits c.requires.2 c.requires.3).0
 
 pub asset_alone-requires : goal.asset_alone-requires

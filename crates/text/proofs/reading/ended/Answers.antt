@@ -1,5 +1,4 @@
 -- `ended` meets its contract: the digits' value or their refusal, as the end says.
-use borrow.Author.Rules.{rules}
 use Rattle.text.proofs.reading.ended.Goals as goal
 
 pub returns-in-Is : goal.returns-in-Is

@@ -1,7 +1,6 @@
 -- `general` meets its contract: its first integer stands before its dot, and the two others are the rest.
 use mathlib.Core.Path.{sym, ◌∙◌}
 use native.Mathlib.Omega.{arith}
-use borrow.Author.Rules.{rules}
 use Rattle.rules.specs.declared.Parts.TheVariants.{Integers}
 use Rattle.scheme.specs.Outlines.{Narrow}
 use Rattle.scheme.proofs.Widths.{parts_narrow}
@@ -21,7 +20,6 @@ part_at-requires c = let s = (goal.at.part_at-requires c).Start in (c.requires.0
 first : (c : In-Is) → let x = c.args in
     Standing 5 (Integer x.a) x.text.now x.at c.in-Is.prefix c.in-Is.field-1 c.in-Is.next
 first c =
-    let p = c in
     let x = c.args in
     stands 5 (Integer x.a) x.text.now x.at c.in-Is.prefix c.in-Is.field-1 c.in-Is.next (sym c.in-Is.is ∙ c.part_at.ensures)
 

@@ -1,6 +1,5 @@
 -- `named_at` meets its contract: the name, then the parts.
 use mathlib.Core.Path.{sym, ◌∙◌}
-use borrow.Author.Rules.{rules}
 use Rattle.text.proofs.Starts.{name_inside, no_name, with_name}
 use Rattle.text.proofs.reading.named_at.Goals as goal
 

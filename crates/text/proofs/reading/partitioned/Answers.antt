@@ -1,7 +1,6 @@
 -- `partitioned` meets its contract: the filter and the company prefix stand before their dots, and the rest is `behind_prefix`.
 use Prim.Native.Nat.{◌≤◌}
 use mathlib.Core.Path.{sym, ◌∙◌}
-use borrow.Author.Rules.{rules}
 use lib.Dec.{leb, leb→le}
 use lib.ListN.{length}
 use Rattle.rules.proofs.Tests.{both}
@@ -16,15 +15,11 @@ use Rattle.text.proofs.reading.partitioned.Goals.{In-Is, In-Is-part_at}
 filter : (c : In-Is) → let x = c.args in
     Standing 4 (Integer 3) x.text.now x.at c.in-Is.filter c.in-Is.field-1 c.in-Is.behind
 filter c =
-    let p = c in
     let x = c.args in
     stands 4 (Integer 3) x.text.now x.at c.in-Is.filter c.in-Is.field-1 c.in-Is.behind (sym c.in-Is.is ∙ c.part_at.ensures)
 
-prefix : (c : In-Is-part_at) → let v = c in
-    Standing 5 Prefix c.args.text.now c.in-Is.behind c.in-Is-part_at.prefix c.in-Is-part_at.digits c.in-Is-part_at.next
+prefix : (c : In-Is-part_at) → Standing 5 Prefix c.args.text.now c.in-Is.behind c.in-Is-part_at.prefix c.in-Is-part_at.digits c.in-Is-part_at.next
 prefix c =
-    let p = c in
-    let v = c in
     stands 5 Prefix c.args.text.now c.in-Is.behind c.in-Is-part_at.prefix c.in-Is-part_at.digits c.in-Is-part_at.next (sym c.in-Is-part_at.is ∙ c.part_at-in-Is.ensures)
 
 pub part_at-requires-in-Is : goal.part_at-requires-in-Is

@@ -1,6 +1,5 @@
 -- `parts_at` meets its contract: three integers, or a partition table.
 use mathlib.Core.Path.{sym, ap, ◌∙◌}
-use borrow.Author.Rules.{rules}
 use Rattle.text.proofs.reading.parts_at.Goals as goal
 
 pub general-requires : goal.general-requires

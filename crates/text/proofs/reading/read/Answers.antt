@@ -2,8 +2,6 @@
 use Prim.Native.Nat.{◌≤◌}
 use mathlib.Core.Path.{◌≡◌, sym, ◌∙◌}
 use mathlib.Core.Option.{some}
-use borrow.Author.Rules.{rules}
-use borrow.Author.Tests.{not-true, not-false}
 use lib.ListN.{length, drop}
 use Rattle.rules.specs.Grammar.{start}
 use Rattle.rules.specs.TextNumbers.{after}
@@ -23,19 +21,16 @@ begins c = begun_is start c.args.text.now 12 twelve (sym c.begins.ensures ∙ c.
 
 pub named_at-requires : goal.named_at-requires
 named_at-requires c =
-    let m = (goal.at.named_at-requires c).Else-not-begins in
     let t = c.args.text.now in
     (with_fields t (begins (goal.at.named_at-requires c).Else-not-begins).1 c.in-By.control c.in-By.next (sym c.in-By.is ∙ c.control_at.ensures)).0
 
 pub returns-in-By : goal.returns-in-By
 returns-in-By c =
-    let m = (goal.at.returns-in-By c).Else-not-begins in
     let t = c.args.text.now in
     c.named_at.ensures ∙ (with_fields t (begins (goal.at.returns-in-By c).Else-not-begins).1 c.in-By.control c.in-By.next (sym c.in-By.is ∙ c.control_at.ensures)).1
 
 pub returns-in-Wrong : goal.returns-in-Wrong
 returns-in-Wrong c =
-    let m = (goal.at.returns-in-Wrong c).Else-not-begins in
     let t = c.args.text.now in
     c.refused-in-Wrong.ensures ∙ wrong_fields t (begins (goal.at.returns-in-Wrong c).Else-not-begins).1 c.in-Wrong.place (sym c.in-Wrong.is ∙ c.control_at.ensures)
 

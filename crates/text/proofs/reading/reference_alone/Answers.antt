@@ -1,7 +1,6 @@
 -- `reference_alone` meets its contract: the last part is the reference, or its refusal is the answer.
 use mathlib.Core.Path.{sym, ◌∙◌}
 use lib.ListN.{drop}
-use borrow.Author.Rules.{rules}
 use Rattle.rules.specs.Schemes.{digits}
 use Rattle.rules.specs.TextNumbers.{last_in}
 use Rattle.text.proofs.Lasts.{alone, not_alone}

@@ -2,7 +2,6 @@
 use Prim.Native.Nat.{◌<◌}
 use mathlib.Core.Path.{ap, ◌∙◌}
 use native.Mathlib.Omega.{arith}
-use borrow.Author.Rules.{rules}
 use Rattle.rules.specs.Schemes.{row_at, cell}
 use Rattle.rules.proofs.Rows.{row_picked}
 use Rattle.scheme.proofs.Widths.{few_digits}
@@ -11,7 +10,7 @@ use Rattle.text.proofs.reading.reference_digits.Goals.{After-by_digits}
 
 -- the partition value is one of the seven
 row : (c : After-by_digits) → c.by_digits.result < 7
-row c = let s = c in rw c.by_digits.ensures (row_picked c.args.prefix c.requires.0 c.requires.1).0
+row c = rw c.by_digits.ensures (row_picked c.args.prefix c.requires.0 c.requires.1).0
 
 pub returns : goal.returns
 returns c =

@@ -1,6 +1,5 @@
 -- `reference_form` meets its contract: the table says which of the two forms it is.
 use mathlib.Core.Path.{sym, ◌∙◌}
-use borrow.Author.Rules.{rules}
 use Rattle.text.proofs.reading.reference_form.Goals as goal
 
 pub returns-then-exact : goal.returns-then-exact

@@ -1,6 +1,5 @@
 -- `with_integer` meets its contract: the reference stands before its dot, the integer is the rest.
 use mathlib.Core.Path.{sym, ◌∙◌}
-use borrow.Author.Rules.{rules}
 use Rattle.rules.specs.declared.Last.TheVariants.{Integer}
 use Rattle.text.proofs.Found.{Standing, stands}
 use Rattle.text.proofs.Lasts.{no_reference, integer_ended}
@@ -11,7 +10,6 @@ use Rattle.text.proofs.reading.with_integer.Goals.{In-Is}
 reference : (c : In-Is) → let x = c.args in
     Standing 6 x.reference x.text.now x.at c.in-Is.value c.in-Is.field-1 c.in-Is.next
 reference c =
-    let p = c in
     let x = c.args in
     stands 6 x.reference x.text.now x.at c.in-Is.value c.in-Is.field-1 c.in-Is.next (sym c.in-Is.is ∙ c.part_at.ensures)
 

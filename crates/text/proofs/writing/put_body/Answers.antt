@@ -1,6 +1,5 @@
 -- The company comes first; in each arm what follows it is known, and the pieces are joined.
 use native.Mathlib.Omega.{arith}
-use borrow.Author.Rules.{rules}
 use Rattle.digits.proofs.Joins.{join}
 use Rattle.text.proofs.writing.put_body.Goals as goal
 

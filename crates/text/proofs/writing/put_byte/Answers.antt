@@ -1,5 +1,4 @@
 -- One store is a piece of one byte.
-use borrow.Author.Rules.{rules}
 use Rattle.digits.proofs.Joins.{byte_put}
 use Rattle.text.proofs.writing.put_byte.Goals as goal
 

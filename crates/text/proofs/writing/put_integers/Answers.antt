@@ -1,5 +1,4 @@
 -- Five pieces: three integers, and the dots between them.
-use borrow.Author.Rules.{rules}
 use Rattle.digits.proofs.Joins.{join}
 use Rattle.text.proofs.writing.put_integers.Goals as goal
 

@@ -1,6 +1,5 @@
 -- In each arm the last part is known: an integer, the characters of the record, or the digits of a numeric string.
 use native.Mathlib.Omega.{arith}
-use borrow.Author.Rules.{rules}
 use Rattle.text.proofs.writing.put_last.Goals as goal
 
 pub write-requires : goal.write-requires

@@ -1,5 +1,4 @@
 -- The digits are those of the value, as many as the record says.
-use borrow.Author.Rules.{rules}
 use Rattle.digits.proofs.Joins.{number_put}
 use Rattle.text.proofs.writing.put_numeric.Goals as goal
 

@@ -1,7 +1,6 @@
 -- The table says which of the two forms the reference has.
 use mathlib.Core.Path.{sym, ◌∙◌}
 use native.Mathlib.Omega.{arith}
-use borrow.Author.Rules.{rules}
 use Rattle.text.proofs.writing.put_reference.Goals as goal
 
 pub returns-then-exact : goal.returns-then-exact

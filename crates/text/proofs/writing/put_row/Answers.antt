@@ -2,7 +2,6 @@
 use Prim.Native.Nat.{◌≤◌}
 use mathlib.Core.Path.{◌≡◌, ap, ◌∙◌}
 use native.Mathlib.Omega.{arith}
-use borrow.Author.Rules.{rules}
 use Rattle.rules.specs.Schemes.{cell, row_of, row_at}
 use Rattle.rules.proofs.Rows.{row_picked}
 use Rattle.digits.proofs.Joins.{number_put}
@@ -21,7 +20,6 @@ module _ (c : After-reference-cell) where
 
   few : c.reference-cell.result.digits ≤ 11
   few =
-      let s = c in
       rw digits_are (reference_short c.args.table c.args.tag.digits c.requires.0.least c.requires.0.most)
 
 pub put_digits-requires : goal.put_digits-requires

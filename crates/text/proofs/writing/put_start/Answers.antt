@@ -1,6 +1,5 @@
 -- Three pieces: the literal is the start, control fields have at most 17 bytes, and a label ten.
 use native.Mathlib.Omega.{arith}
-use borrow.Author.Rules.{rules}
 use Rattle.rules.specs.Grammar.{start}
 use Rattle.digits.proofs.Joins.{join}
 use Rattle.text.proofs.Rooms.{label_short}
