@@ -54,6 +54,14 @@ for_some π got n l e out r sent closed input' out' z h t =
     } in
     record { read = read; taken = λ h. taken; unheard = λ h. absurd (true_is_not_false h); closed = z }
 
+pub for_none : (π : Program) (rest input out : List ℕ) (kept : ℕ) → OneTurn π rest (record { kept = kept; ended = false; heard = false; sent = true; closed = false }) input out
+for_none π rest input out kept = record {
+  read = [];
+  taken = λ h. absurd (true_is_not_false (sym h));
+  unheard = λ h. refl;
+  closed = λ h. absurd (true_is_not_false (sym h));
+}
+
 -- THE LOOP
 
 -- the reads so far, none of which was the last
