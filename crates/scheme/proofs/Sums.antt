@@ -63,11 +63,11 @@ sum_d P (row p a b c d e k) h = same_sum _ _ _ _ (sym h.bits_d) (sym h.digits_d)
 pub sum_cpi : Sums Cpi 51 15
 sum_cpi P (row p a b c d e k) h = same_sum _ _ _ _ (sym h.bits_cpi) (sym h.digits_cpi)
 
-sum_E : (P : ℕ) (r : Row) → InnerRules P r → prefix_bits r + asset_bits r ≡ 82
-sum_E P (row p a b c d e k) h = h.bits_e
+sum_e : (P : ℕ) (r : Row) → InnerRules P r → prefix_bits r + asset_bits r ≡ 82
+sum_e P (row p a b c d e k) h = h.bits_e
 
 pub asset_sum : (P : ℕ) → P < 7 → prefix_bits (row_at P) + asset_bits (row_at P) ≡ 82
-asset_sum P l = sum_E P (row_at P) (inner P l)
+asset_sum P l = sum_e P (row_at P) (inner P l)
 
 -- a sum in every row, of a table whose name is known by an equation
 pub in_rows : (t u : Table) (b n : ℕ) → t ≡ u → Sums u b n → SumIn t (record { 0 = b; 1 = n })

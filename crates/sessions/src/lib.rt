@@ -23,7 +23,7 @@ const ROOM: usize = lines::GROWTH * INPUT + lines::REPLY_ROOM;
 const MOST_READS: u64 = u64::MAX;
 
 // The exit status where nobody reads the replies: what a shell shows of a program that the signal for that has ended.
-const UNREAD: u8 = 141;
+const CLOSED: u8 = 141;
 
 // How many bytes a read that answered `got` has put at the start of `behind`: none, where it failed.
 fn count(got: io::Result<usize>, behind: &[u8]) -> usize
@@ -60,7 +60,7 @@ fn failed(got: io::Result<usize>) -> bool
 }
 
 // Whether a write that answered `put` has failed because nobody reads what is written.
-fn unread(put: io::Result<()>) -> bool
+fn is_closed(put: io::Result<()>) -> bool
     ensures { IsTrue result ↔ IsErrAnd put (λ e. error_kind e ≡ ErrorKind.BrokenPipe) }
 {
     match put {
@@ -111,7 +111,7 @@ fn one_turn<R: Read, W: Write>(
         ended: turned.ended,
         heard: true,
         sent: put.is_ok(),
-        closed: unread(put),
+        closed: is_closed(put),
     }
 }
 
@@ -204,14 +204,14 @@ pub fn run<R: Read, W: Write, E: Write>(
 // or a read failed.
 pub fn status(stopped: Stopped) -> u8
     ensures answered { result ≡ 0 ↔ (stopped.sent ≡ true) × (stopped.ended ≡ true) }
-    ensures unread { stopped.sent ≡ false → stopped.closed ≡ true → result ≡ 141 }
+    ensures closed { stopped.sent ≡ false → stopped.closed ≡ true → result ≡ 141 }
     ensures failed { stopped.sent ≡ false → stopped.closed ≡ false → result ≡ 1 }
     ensures unheard { stopped.sent ≡ true → stopped.ended ≡ false → result ≡ 1 }
 {
     if stopped.sent {
         if stopped.ended { 0 } else { 1 }
     } else if stopped.closed {
-        UNREAD
+        CLOSED
     } else {
         1
     }

@@ -18,6 +18,6 @@ has_failed (Err e) P h = refl
 
 pub returns : goal.returns
 returns g c =
-    for_some c.args.program c.read-got.result c.args.kept c.args.input.now c.read-got.new.buf c.args.out.now c.turn_for-turned.result c.is_ok.result c.unread.result
-    c.turn_for-turned.new.input c.turn_for-turned.new.out (λ h. c.is_ok.ensures.value ∙ has_failed c.write_all-put.result _ (c.unread.ensures.0 h)) (omega arith)
+    for_some c.args.program c.read-got.result c.args.kept c.args.input.now c.read-got.new.buf c.args.out.now c.turn_for-turned.result c.is_ok.result c.is_closed.result
+    c.turn_for-turned.new.input c.turn_for-turned.new.out (λ h. c.is_ok.ensures.value ∙ has_failed c.write_all-put.result _ (c.is_closed.ensures.0 h)) (omega arith)
     c.turn_for-turned.ensures

@@ -3,7 +3,7 @@ use mathlib.Core.Path.{◌≡◌}
 use native.Mathlib.Omega.{arith}
 use Rattle.tens.proofs.Numerals.{next_power, power_le, Highest, no_numeric, none_at_all, none_below, is_numeric}
 use Rattle.tens.proofs.behind_one.Goals as goal
-use Rattle.tens.proofs.behind_one.Goals.{At-loop-count, Left-loop-count, Else-count-eq0, else-loop-count-test, then-loop-count-test+then-v-one}
+use Rattle.tens.proofs.behind_one.Goals.{At-loop-count, Left-loop-count, else-loop-count-test, then-loop-count-test+then-v-one}
 
 -- the next power
 next : (a : At-loop-count) → a.loop-count.one * 10 ≡ 10 ^ (a.loop-count.count + 1)
@@ -28,10 +28,6 @@ highest c =
 
 pub returns-then-count-eq0 : goal.returns-then-count-eq0
 returns-then-count-eq0 c = no_numeric _ _ (none_at_all _ _ _ (highest c.before) c.if-count-eq0.true)
-
--- there is a digit, and so `one` is not above v
-one_le : (c : Else-count-eq0) → let a = c.before.before in a.loop-count.one ≤ a.args.v
-one_le c = let l = c.loop-count in rw l.invariant.0 (l.invariant.2 (omega (arith, c.if-count-eq0.false)))
 
 pub returns-then-one-value : goal.returns-then-one-value
 returns-then-one-value c =

@@ -8,7 +8,7 @@ use Rattle.numeral.specs.Numeral.{numeral}
 use Rattle.bits.specs.Streams.{waiting, Streamed}
 use Rattle.bank.proofs.PackedZeros.{none_left, width, takes_some, before_end, inside, all_there}
 use Rattle.bank.proofs.writing.put_zeros.Goals as goal
-use Rattle.bank.proofs.writing.put_zeros.Goals.{After-push-next, After-struct_known-4-1, Start}
+use Rattle.bank.proofs.writing.put_zeros.Goals.{After-push-next, Start}
 
 pub push-next-requires : goal.push-next-requires
 push-next-requires c =
@@ -21,22 +21,15 @@ module _ (c : After-push-next) where
   some : Streamed begin.args.out.now begin.args.s.at (waiting begin.args.s ++ numeral 2 (width begin.args.out.now begin.args.s begin.args.n begin.requires) 0) c.push-next.new.out c.push-next.result
   some = rw c.least.ensures at c.push-next.ensures
 
--- it stands before byte n, with room up to there
-module _ (c : After-struct_known-4-1) where
-  abbrev push : After-push-next
-  push = (goal.at.After-struct_known-4-1 c).After-push-next
+  -- it stands before byte n, with room up to there
+  stands : c.push-next.result.at ≤ begin.args.n
+  stands = before_end begin.args.out.now begin.args.s begin.args.n begin.requires some
 
-  abbrev start : Start
-  start = begin push
-
-  stands : push.push-next.result.at ≤ start.args.n
-  stands = before_end start.args.out.now start.args.s start.args.n start.requires (some push)
-
-  room : push.push-next.result.at + (start.args.n - push.push-next.result.at) ≤ length push.push-next.new.out
-  room = inside start.args.out.now start.args.s start.args.n start.requires (some push)
+  room : c.push-next.result.at + (begin.args.n - c.push-next.result.at) ≤ length c.push-next.new.out
+  room = inside begin.args.out.now begin.args.s begin.args.n begin.requires some
 
 pub overflow_sub-n-2 : goal.overflow_sub-n-2
-overflow_sub-n-2 c = stands c
+overflow_sub-n-2 c = stands (goal.at.overflow_sub-n-2 c).After-push-next
 
 pub returns : goal.returns
 returns c =
@@ -48,4 +41,4 @@ pub returns-then-s-n : goal.returns-then-s-n
 returns-then-s-n c = none_left c.args.out.now c.args.s c.args.n c.requires c.if-s-n.true
 
 pub split-requires : goal.split-requires
-split-requires c = (room c, lit< tt, omega arith)
+split-requires c = (room (goal.at.split-requires c).After-push-next, lit< tt, omega arith)

@@ -1,5 +1,4 @@
 -- At each index the family of the list is computed; behind the tenth there is one more.
-use Prim.Native.Nat.{ℕ, ◌+◌, ◌≤◌}
 use mathlib.Core.Path.{◌≡◌, sym, ap}
 use native.Mathlib.Omega.{arith}
 use Rattle.identities.specs.Families.{families}
@@ -46,16 +45,8 @@ pub returns-in-9 : goal.returns-in-9
 unfolding families
 returns-in-9 c = sym (ap family_at c.in-9.is)
 
--- past one index after the other
-up : (k i : ℕ) → k ≤ i → ¬ (i ≡ k) → k + 1 ≤ i
-up k i h n = omega arith
-
 pub returns-in_default : goal.returns-in_default
 unfolding families
 returns-in_default c =
-    let i = c.args.i in
-    let r = c.in_default.in_default-own.rest in
-    let h = up 4 i (up 3 i (up 2 i (up 1 i (up 0 i (omega arith) r.0.0.0.0.0.0.0.0.0.1) r.0.0.0.0.0.0.0.0.1) r.0.0.0.0.0.0.0.1) r.0.0.0.0.0.0.1) r.0.0.0.0.0.1 in
-    let m = up 9 i (up 8 i (up 7 i (up 6 i (up 5 i h r.0.0.0.0.1) r.0.0.0.1) r.0.0.1) r.0.1) r.1 in
-    let e : i ≡ 10 = omega (arith, c.requires, m) in
+    let e : c.args.i ≡ 10 = omega arith in
     sym (ap family_at e)

@@ -1,6 +1,6 @@
 -- The raw line is written behind the letter and the number; where it is refused, the output is as it was.
 use Prim.Native.Nat.{◌+◌, ◌≤◌}
-use mathlib.Core.Path.{◌≡◌, ◌∙◌}
+use mathlib.Core.Path.{◌≡◌}
 use native.Mathlib.Omega.{arith}
 use lib.ListN.{set, length-set}
 use Rattle.rules.specs.BankNumbers.{tag_of_bank}
@@ -34,7 +34,7 @@ pub overflow_add-result : goal.overflow_add-result
 overflow_add-result c = omega (arith, (shown c).0)
 
 pub shape_of-out-in-Written : goal.shape_of-out-in-Written
-shape_of-out-in-Written c = simp length-set (c.put_number-end.auto.out ∙ c.out-1.given.1)
+shape_of-out-in-Written c = simp length-set (omega arith)
 
 pub returns-in-Written : goal.returns-in-Written
 returns-in-Written c = (shown c).2

@@ -36,13 +36,13 @@ returns-in-Refused c =
     rw a (rw e at c.put_number.ensures)
 
 pub bounds-out-1 : goal.bounds-out-1
-bounds-out-1 c = simp length-set (omega (arith, c.out-1.given.1))
+bounds-out-1 c = simp length-set (omega arith)
 
 pub overflow_add-result : goal.overflow_add-result
 overflow_add-result c = omega (arith, (shown c).0)
 
 pub shape_of-out-in-Written : goal.shape_of-out-in-Written
-shape_of-out-in-Written c = simp length-set c.out-1.given.1
+shape_of-out-in-Written c = simp length-set (omega arith)
 
 pub returns-in-Written : goal.returns-in-Written
 returns-in-Written c = (shown c).1

@@ -2,7 +2,6 @@
 use mathlib.Core.Path.{◌≡◌}
 use mathlib.Core.Logic.{◌⊎◌, inl, inr}
 use native.Mathlib.Omega.{arith}
-use borrow.Author.Tests.{eqb-true}
 use Rattle.digits.proofs.Joins.{join, nothing_put}
 use Rattle.digits.specs.Pieces.{Puts}
 use Rattle.rules.specs.ControlFields.{fields_text}
@@ -13,7 +12,7 @@ use Rattle.text.proofs.control.put_control.Goals.{After-put_field-end, Joined-el
 
 pub returns-then-control-eq0-2 : goal.returns-then-control-eq0-2
 returns-then-control-eq0-2 c =
-    record { puts = rw (none_stands c.args.control c.if-control-eq0.true (eqb-true c.args.control.att 0 c.if-control-eq0-2.true-raw)) (nothing_put c.args.out.now c.args.at); upper_bound = omega arith }
+    record { puts = rw (none_stands c.args.control c.if-control-eq0.true c.if-control-eq0-2.true) (nothing_put c.args.out.now c.args.at); upper_bound = omega arith }
 
 -- where the fields are written one of them is not zero
 one : (c : Joined-else-control-eq0) → (¬ (c.args.control.umi ≡ 0)) ⊎ (¬ (c.args.control.att ≡ 0))
