@@ -22,7 +22,7 @@ const ROOM: usize = lines::GROWTH * INPUT + lines::REPLY_ROOM;
 // The most reads that are made. Nobody meets this limit: at a read a nanosecond it takes 584 years.
 const MOST_READS: u64 = u64::MAX;
 
-// The exit status where nobody reads the replies: what a shell shows of a program that the signal for that has ended.
+// The exit status where nobody reads the replies: 128 and 13, which a shell shows of a program that SIGPIPE (13) has ended.
 const CLOSED: u8 = 141;
 
 // How many bytes a read that answered `got` has put at the start of `behind`: none, where it failed.
@@ -200,8 +200,7 @@ pub fn run<R: Read, W: Write, E: Write>(
     stopped
 }
 
-// The exit status that a session ends with: 0, every line has its reply; 141, nobody reads the replies; 1, another write
-// or a read failed.
+// The exit status that a session ends with: 0, every line has its reply; 141, nobody reads the replies; 1, another write or a read failed.
 pub fn status(stopped: Stopped) -> u8
     ensures answered { result ≡ 0 ↔ (stopped.sent ≡ true) × (stopped.ended ≡ true) }
     ensures closed { stopped.sent ≡ false → stopped.closed ≡ true → result ≡ 141 }
