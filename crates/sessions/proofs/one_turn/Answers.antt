@@ -3,7 +3,7 @@ use Rattle.std.proofs.Common.{◌≡◌, false, refl, sym, ◌∙◌, arith}
 use Rattle.std.proofs.Math.Seq.{length-take-le}
 use Rattle.std.specs.Prelude.{Result, Ok, Err, is_ok, IsErrAnd}
 use Rattle.replies.proofs.Pieces.{wrote_within}
-use Rattle.sessions.proofs.Runs.{for_some}
+use Rattle.sessions.proofs.Runs.{for_some, for_none}
 use Rattle.sessions.proofs.one_turn.Goals as goal
 
 pub slice_bounds-write_all-end : goal.slice_bounds-write_all-end
@@ -15,6 +15,9 @@ slice_bounds-write_all-end-2 g c = sym (length-take-le _ _ (slice_bounds-write_a
 has_failed : {T E : Type 0} (r : Result T E) (P : E → Type 0) → IsErrAnd r P → is_ok r ≡ false
 has_failed (Ok x) P h = absurd h
 has_failed (Err e) P h = refl
+
+pub returns-then-failed : goal.returns-then-failed
+returns-then-failed g c = for_none _ _ _ _ c.args.kept
 
 pub returns : goal.returns
 returns g c =
