@@ -1,42 +1,39 @@
--- What the class of a byte says of it. c is the byte, and r the class that was looked up.
-use Prim.Native.Nat.{ℕ}
-use mathlib.Core.Path.{◌≡◌, refl, ap, ◌∙◌}
-use mathlib.Core.Bool.{Bool, true, false, ◌&&◌, not, cond}
-use borrow.Author.Tests.{eq-eqb, ne_eqb}
-use lib.Dec.{eqb}
+-- The class table, and what a class says of its byte. c is the byte, r the class that was looked up, and t whether it is the class asked for.
+use Rattle.std.proofs.Common.{◌≡◌, ℕ, ◌<◌, slice_index_or, map, refl, ap, ◌∙◌, arith, Bool, true, false, ◌&&◌, not, cond}
+use Rattle.std.specs.List.{range_with_len}
+use Rattle.std.proofs.lemmas.List.FromFn.{get_or-map-range_with_len}
+use denote.Enum.Bare.{sameb}
 use Rattle.rules.specs.Bytes.{among}
-use Rattle.rules.specs.Characters.{escaped, character, plain}
+use Rattle.rules.specs.Characters.{table_a1, escaped, character, plain}
+use Rattle.alphabet.specs.declared.table.Class.{Class}
+use Rattle.alphabet.specs.declared.table.Class.TheVariants.{Outside, Plain, Escaped}
+use Rattle.alphabet.specs.declared.table.TheConstants.{CLASSES}
+use Rattle.alphabet.specs.contracts.table.Class.{the_type}
 use Rattle.alphabet.specs.Strings.{class_of}
 
-module _ (c r : ℕ) (e : r ≡ class_of c) where
-  plain_is : plain c ≡ eqb r 1
-  unfolding class_of
-  plain_is = rw e (go (character c) (among c escaped))
-    where
-      go : (a b : Bool) → a && not b ≡ eqb (cond a (cond b 2 1) 0) 1
-      go true true = refl
-      go true false = refl
-      go false b = refl
+-- One test over the 256 entries, which the checker computes: each is the class of its place.
+pub class_table : CLASSES ≡ map class_of (range_with_len 0 256)
+unfolding class_of table_a1 escaped
+class_table = refl
 
-  character_is : character c ≡ not (eqb r 0)
-  unfolding class_of
-  character_is = rw e (go (character c) (among c escaped))
-    where
-      go : (a b : Bool) → a ≡ not (eqb (cond a (cond b 2 1) 0) 0)
-      go true true = refl
-      go true false = refl
-      go false b = refl
+pub class_at : (c : ℕ) → c < 256 → slice_index_or CLASSES c Outside ≡ class_of c
+class_at c h = ap (λ t. slice_index_or t c Outside) class_table ∙ get_or-map-range_with_len class_of 0 256 c c Outside h (omega arith)
 
-  -- class 1: it stands for itself
-  pub plain_class : r ≡ 1 → plain c ≡ true
-  plain_class h = plain_is ∙ eq-eqb r 1 h
+-- The two questions that the code asks of a class.
+pub plain_test : (c : ℕ) (r : Class) (t : Bool) → r ≡ class_of c → t ≡ sameb the_type r Plain → plain c ≡ t
+unfolding class_of
+plain_test c r t e f = rw (f, e) (go (character c) (among c escaped))
+  where
+    go : (a b : Bool) → a && not b ≡ sameb the_type (cond a (cond b Escaped Plain) Outside) Plain
+    go true true = refl
+    go true false = refl
+    go false b = refl
 
-  pub other_class : ¬ (r ≡ 1) → plain c ≡ false
-  other_class n = plain_is ∙ ne_eqb r 1 n
-
-  -- class 0: it is no character
-  pub no_character : r ≡ 0 → character c ≡ false
-  no_character h = character_is ∙ ap not (eq-eqb r 0 h)
-
-  pub some_character : ¬ (r ≡ 0) → character c ≡ true
-  some_character n = character_is ∙ ap not (ne_eqb r 0 n)
+pub outside_test : (c : ℕ) (r : Class) (t : Bool) → r ≡ class_of c → t ≡ sameb the_type r Outside → character c ≡ not t
+unfolding class_of
+outside_test c r t e f = rw (f, e) (go (character c) (among c escaped))
+  where
+    go : (a b : Bool) → a ≡ not (sameb the_type (cond a (cond b Escaped Plain) Outside) Outside)
+    go true true = refl
+    go true false = refl
+    go false b = refl

@@ -2,33 +2,31 @@
 use Prim.Native.Nat.{ℕ, zero, suc, ◌+◌, ◌-◌, ◌≤◌, ◌<◌}
 use mathlib.Core.Path.{◌≡◌, refl, sym, ◌∙◌, ap}
 use mathlib.Core.Logic.{inl, inr}
-use mathlib.Core.Bool.{Bool, true}
+use mathlib.Core.Bool.{Bool, true, false}
 use mathlib.Core.List.{List, [], ◌∷◌, ◌++◌, append_assoc, append-nil}
-use mathlib.Core.Option.{Option, none, some}
+use Rattle.std.specs.Prelude.{Option, None, Some, option_map}
 use native.Mathlib.Nat.{add-zero, sub_self}
 use native.Mathlib.Numerals.{add-one}
 use native.Mathlib.Omega.{arith}
-use lib.Dec.{T, lt→ltb, ltb→lt}
+use lib.Dec.{T, lt→ltb}
 use lib.ListN.{length, take, drop, get_or, replicate, length-append, length-replicate, replicate-append-replicate}
-use lib.Seq.{take-suc, take_at, drop_at, length-take-le, get_or-take, get_or-append-add}
+use lib.Seq.{take-length, take-suc, take_at, drop_at, length-take-le, get_or-take, get_or-append-add}
 use Rattle.rules.specs.Bytes.{all}
 use Rattle.rules.specs.Characters.{table_a1, character}
 use Rattle.rules.specs.BankNumbers.{string_in}
 use Rattle.rules.specs.Conditions.{WrongGroups}
 use Rattle.rules.proofs.Tests.{both, and, all_among, all_map}
 use Rattle.rules.proofs.Answers.{Decides}
-use Rattle.rules.proofs.Groups.{nonzero, leading_of, StringIs, string_decides, string_of_lem}
-use Rattle.alphabet.specs.Strings.{count_of}
+use Rattle.rules.proofs.Groups.{nonzero, StringIs, string_decides, string_of_lem}
 
 -- Groups that are characters and then zeros are counted; no character is a zero.
 all_nonzero : T (all nonzero table_a1)
 unfolding table_a1
 all_nonzero = tt
 
-counted_string : (cs : List ℕ) (z : ℕ) → T (all character cs) → length cs ≡ count_of (string_in (cs ++ replicate z 0))
-counted_string [] z h = rw (leading_of [] z tt)
-counted_string (c ∷ cs) z h =
-    rw (string_of_lem (c ∷ cs) z (all_map character nonzero (c ∷ cs) (λ x m. all_among nonzero table_a1 x all_nonzero m) h) (lt→ltb 0 (suc (length cs)) (omega arith)) h)
+counted_string : (cs : List ℕ) (z : ℕ) → T (all character cs) → 0 < length cs → string_in (cs ++ replicate z 0) ≡ Some cs
+counted_string cs z h k =
+    string_of_lem cs z (all_map character nonzero cs (λ x m. all_among nonzero table_a1 x all_nonzero m) h) (lt→ltb 0 (length cs) k) h
 
 -- What is known of the first i groups of x while they are counted: n characters, and then zeros.
 pub record Counted (x : List ℕ) (i n : ℕ) : Type 0 where
@@ -36,13 +34,15 @@ pub record Counted (x : List ℕ) (i n : ℕ) : Type 0 where
   pub characters : T (all character (take n x))
   pub zeros : take i x ≡ take n x ++ replicate (i - n) 0
 
-pub counted_none : (x : List ℕ) → Counted x 0 0
-counted_none x = record { within = omega arith; characters = tt; zeros = refl }
+module _ (x : List ℕ) (n : ℕ) (c : Counted x (length x) n) where
+  all_of_them : x ≡ take n x ++ replicate (length x - n) 0
+  all_of_them = sym (take-length x) ∙ c.zeros
 
-pub counted_end : (x : List ℕ) (i n : ℕ) → i ≤ length x → Counted x i n → n ≡ count_of (string_in (take i x))
-counted_end x i n h c =
-    let e : length (take n x) ≡ n = length-take-le n x (omega (arith, c.within)) in
-    rw c.zeros (sym e ∙ counted_string (take n x) (i - n) c.characters)
+  pub counted_end : ¬ (n ≡ 0) → Some n ≡ option_map length (string_in x)
+  counted_end z =
+      let e : length (take n x) ≡ n = length-take-le n x c.within in
+      let s = ap string_in all_of_them ∙ counted_string (take n x) (length x - n) c.characters (omega arith) in
+      rw (s, e)
 
 all_snoc : (test : ℕ → Bool) (cs : List ℕ) (c : ℕ) → T (all test cs) → T (test c) → T (all test (cs ++ (c ∷ [])))
 all_snoc test [] c h t = and (test c) true t tt
@@ -80,28 +80,24 @@ module _ (x : List ℕ) (i n : ℕ) (h : i < length x) (c : Counted x i n) where
         zeros = rw (sub_self, append-nil);
       }
 
-refused_count : (gs : List ℕ) → WrongGroups (length gs) (λ i. get_or gs i 0) → 0 ≡ count_of (string_in gs)
+refused_count : (gs : List ℕ) → WrongGroups (length gs) (λ i. get_or gs i 0) → None ≡ option_map length (string_in gs)
 refused_count gs w = go (string_in gs) (string_decides gs)
   where
-    go : (o : Option (List ℕ)) → Decides (WrongGroups (length gs) λ i. get_or gs i 0) (StringIs gs) o → 0 ≡ count_of o
-    go none s = refl
-    go (some cs) s = absurd (s.0 w)
+    go : (o : Option (List ℕ)) → Decides (WrongGroups (length gs) λ i. get_or gs i 0) (StringIs gs) o → None ≡ option_map length o
+    go None s = refl
+    go (Some cs) s = absurd (s.0 w)
 
-module _ (x : List ℕ) (i k : ℕ) (h : i < k) (l : k ≤ length x) (e : ¬ (get_or x i 0 ≡ 0)) where
-  inside : i < length (take k x)
-  inside = rw (length-take-le k x l) h
+module _ (x : List ℕ) (i : ℕ) (h : i < length x) (e : ¬ (get_or x i 0 ≡ 0)) where
+  pub wrong_group : character (get_or x i 0) ≡ false → None ≡ option_map length (string_in x)
+  wrong_group f = refused_count x (inr (inr (i, h, e, λ t. rw f at t)))
 
-  pub wrong_group : ¬ T (character (get_or x i 0)) → 0 ≡ count_of (string_in (take k x))
-  wrong_group f = refused_count (take k x) (inr (inr (i, inside, rw (get_or-take k x i 0 h) e, rw (get_or-take k x i 0 h) f)))
-
-  pub after_zero : (n : ℕ) → Counted x i n → n < i → 0 ≡ count_of (string_in (take k x))
+  pub after_zero : (n : ℕ) → Counted x i n → n < i → None ≡ option_map length (string_in x)
   after_zero n c b =
       let zero_at : get_or (take i x) n 0 ≡ 0 = rw c.zeros (zero_behind (take n x) (i - n) n (length-take-le n x (omega arith))) in
-      let same = get_or-take k x n 0 (omega arith) ∙ sym (get_or-take i x n 0 b) in
-      refused_count (take k x) (inr (inl (n, i, b, inside, same ∙ zero_at, rw (get_or-take k x i 0 h) e)))
+      refused_count x (inr (inl (n, i, b, h, sym (get_or-take i x n 0 b) ∙ zero_at, e)))
 
 -- What a caller finds: the characters stand first, and zeros behind them; or the groups are refused.
-pub taken_groups : (gs cs : List ℕ) → string_in gs ≡ some cs → (cs ≡ take (length cs) gs) × (drop (length cs) gs ≡ replicate (length gs - length cs) 0)
+pub taken_groups : (gs cs : List ℕ) → string_in gs ≡ Some cs → (cs ≡ take (length cs) gs) × (drop (length cs) gs ≡ replicate (length gs - length cs) 0)
 taken_groups gs cs e = let s : StringIs gs cs = (rw e at (string_decides gs)).1 in go gs s.0 s.1
   where
     go : (gs : List ℕ) (z : ℕ) → gs ≡ cs ++ replicate z 0 → (cs ≡ take (length cs) gs) × (drop (length cs) gs ≡ replicate (length gs - length cs) 0)
@@ -109,16 +105,16 @@ taken_groups gs cs e = let s : StringIs gs cs = (rw e at (string_decides gs)).1 
         let k : length gs - length cs ≡ z = omega (arith, ap length e, length-append cs (replicate z 0), length-replicate {A = ℕ} z 0) in
         rw (k, e) (sym (take_at cs (replicate z 0) (length cs) refl), drop_at cs (replicate z 0) (length cs) refl)
 
-pub count_taken : (gs : List ℕ) (n : ℕ) → n ≡ count_of (string_in gs) → ¬ (n ≡ 0) → string_in gs ≡ some (take n gs)
-count_taken gs n e z = go (string_in gs) refl e
+pub count_taken : (gs : List ℕ) (n : ℕ) → Some n ≡ option_map length (string_in gs) → string_in gs ≡ Some (take n gs)
+count_taken gs n e = go (string_in gs) refl e
   where
-    go : (o : Option (List ℕ)) → string_in gs ≡ o → n ≡ count_of o → string_in gs ≡ some (take n gs)
-    go none q e = absurd (z e)
-    go (some cs) q e = q ∙ ap some (rw e (taken_groups gs cs q).0)
+    go : (o : Option (List ℕ)) → string_in gs ≡ o → Some n ≡ option_map length o → string_in gs ≡ Some (take n gs)
+    go None q e = cc
+    go (Some cs) q e = let k : n ≡ length cs = cc in q ∙ ap Some (rw k (taken_groups gs cs q).0)
 
-pub count_refused : (gs : List ℕ) (n : ℕ) → n ≡ count_of (string_in gs) → n ≡ 0 → string_in gs ≡ none
-count_refused gs n e z = go (string_in gs) (string_decides gs) e
+pub count_refused : (gs : List ℕ) → None ≡ option_map length (string_in gs) → string_in gs ≡ None
+count_refused gs e = go (string_in gs) e
   where
-    go : (o : Option (List ℕ)) → Decides (WrongGroups (length gs) λ i. get_or gs i 0) (StringIs gs) o → n ≡ count_of o → o ≡ none
-    go none s e = refl
-    go (some cs) s e = absurd (omega (arith, ltb→lt 0 (length cs) s.1.2))
+    go : (o : Option (List ℕ)) → None ≡ option_map length o → o ≡ None
+    go None e = refl
+    go (Some cs) e = cc

@@ -2,7 +2,6 @@
 pub mod Kept
 pub mod Counts
 mod Classes
-mod Tables
 mod Steps
 mod Widths
 mod Writes

@@ -1,25 +1,23 @@
 -- What the written rules read at one place of a text, by the byte that stands there, and how that is counted.
-use Prim.Native.Nat.{ℕ, suc, ◌+◌, ◌≤◌, ◌<◌}
+use Prim.Native.Nat.{ℕ, suc, ◌+◌, ◌-◌, ◌≤◌, ◌<◌}
 use mathlib.Core.Path.{◌≡◌, refl}
 use mathlib.Core.List.{List, [], ◌∷◌}
-use mathlib.Core.Option.{Option, none, some}
+use Rattle.std.specs.Prelude.{Option, None, Some}
 use mathlib.Core.Bool.{true, false}
 use native.Mathlib.Nat.{add-zero}
 use native.Mathlib.Omega.{arith}
 use borrow.Author.Tests.{ne_eqb}
-use lib.ListN.{length, drop, get_or, length-drop, drop_of_length-le}
-use lib.Seq.{drop-drop}
+use lib.ListN.{length, take, drop, get_or, length-drop, drop_of_length-le}
+use lib.Seq.{take_all}
 use Rattle.rules.specs.Bytes.{percent}
 use Rattle.rules.specs.Characters.{table_a1, escaped, plain}
 use Rattle.rules.specs.TextNumbers.{put, characters_in}
 use Rattle.rules.proofs.Spellings.{itself_of}
 use Rattle.digits.proofs.Runs.{drop_next}
-use Rattle.alphabet.specs.declared.Found.{Found}
-use Rattle.alphabet.specs.declared.Found.TheVariants.{Character, Nothing}
-use Rattle.alphabet.specs.Readers.{counted, found_of, escape_in}
+use Rattle.alphabet.specs.Readers.{counted, escape_in}
 
 -- At a byte that stands for itself, at a percent sign, at any other byte, and at the end.
-other_of : (c : ℕ) (t : List ℕ) → plain c ≡ false → ¬ (c ≡ percent) → characters_in (c ∷ t) ≡ none
+other_of : (c : ℕ) (t : List ℕ) → plain c ≡ false → ¬ (c ≡ percent) → characters_in (c ∷ t) ≡ None
 other_of c [] e n = rw e
 other_of c (h ∷ []) e n = rw e
 other_of c (h ∷ l ∷ t) e n = rw (ne_eqb c percent n, e)
@@ -31,46 +29,41 @@ percent_of (h ∷ []) = refl
 percent_of (h ∷ l ∷ t) = refl
 
 module _ (x : List ℕ) (i : ℕ) (h : i < length x) where
-  pub at_plain : plain (get_or x i 0) ≡ true → characters_in (drop i x) ≡ put (some (get_or x i 0)) (characters_in (drop (i + 1) x))
+  pub at_plain : plain (get_or x i 0) ≡ true → characters_in (drop i x) ≡ put (Some (get_or x i 0)) (characters_in (drop (i + 1) x))
   at_plain e = rw (drop_next x i h) (itself_of (get_or x i 0) (drop (i + 1) x) e)
 
   pub at_percent : get_or x i 0 ≡ percent → characters_in (drop i x) ≡ characters_in (percent ∷ drop (i + 1) x)
   at_percent e = rw (drop_next x i h, e)
 
-  pub at_other : plain (get_or x i 0) ≡ false → ¬ (get_or x i 0 ≡ percent) → characters_in (drop i x) ≡ none
+  pub at_other : plain (get_or x i 0) ≡ false → ¬ (get_or x i 0 ≡ percent) → characters_in (drop i x) ≡ None
   at_other e n = rw (drop_next x i h) (other_of (get_or x i 0) (drop (i + 1) x) e n)
 
-pub at_end : (x : List ℕ) (i : ℕ) → length x ≤ i → characters_in (drop i x) ≡ some []
+pub at_end : (x : List ℕ) (i : ℕ) → length x ≤ i → characters_in (drop i x) ≡ Some []
 at_end x i h = rw (drop_of_length-le x h)
 
 -- Behind a percent sign stand the two digits of an escape, or they do not.
-pub escape_some : (o : Option ℕ) (r : Found) (c : ℕ) → r ≡ found_of o → r ≡ Character c → o ≡ some c
-escape_some none r c e f = let z : ◌≡◌ {A = ℕ} 0 1 = cc in absurd (omega arith)
-escape_some (some d) r c e f = cc
+pub escape_within : (t : List ℕ) (c : ℕ) → escape_in t ≡ Some c → 2 ≤ length t
+escape_within [] c e = let z : ◌≡◌ {A = ℕ} 0 1 = cc in absurd (omega arith)
+escape_within (h ∷ []) c e = let z : ◌≡◌ {A = ℕ} 0 1 = cc in absurd (omega arith)
+escape_within (h ∷ l ∷ t) c e = omega arith
 
-pub escape_none : (o : Option ℕ) (r : Found) → r ≡ found_of o → r ≡ Nothing → o ≡ none
-escape_none none r e f = refl
-escape_none (some d) r e f = let z : ◌≡◌ {A = ℕ} 0 1 = cc in absurd (omega arith)
+pub at_escape : (t : List ℕ) (c : ℕ) → escape_in t ≡ Some c → characters_in (percent ∷ t) ≡ put (Some c) (characters_in (drop 2 t))
+at_escape t c e = rw (percent_of t, e)
 
-two_digits_lem : (t : List ℕ) (c : ℕ) → escape_in t ≡ some c → 2 ≤ length t
-two_digits_lem [] c e = let z : ◌≡◌ {A = ℕ} 0 1 = cc in absurd (omega arith)
-two_digits_lem (h ∷ []) c e = let z : ◌≡◌ {A = ℕ} 0 1 = cc in absurd (omega arith)
-two_digits_lem (h ∷ l ∷ t) c e = omega arith
+pub no_escape : (t : List ℕ) → escape_in t ≡ None → characters_in (percent ∷ t) ≡ None
+no_escape t e = rw (percent_of t, e)
 
-module _ (x : List ℕ) (i : ℕ) where
-  pub at_escape : (c : ℕ) → escape_in (drop i x) ≡ some c → characters_in (percent ∷ drop i x) ≡ put (some c) (characters_in (drop (i + 2) x))
-  at_escape c e = rw (percent_of (drop i x), e, drop-drop 2 i x)
+-- the slice behind w bytes of a text
+abbrev pub left : List ℕ → ℕ → List ℕ
+left x w = take (length x - w) (drop w x)
 
-  pub escape_within : (c : ℕ) → i ≤ length x → escape_in (drop i x) ≡ some c → i + 2 ≤ length x
-  escape_within c h e = omega (arith, length-drop i x, two_digits_lem (drop i x) c e)
-
-  pub no_escape : escape_in (drop i x) ≡ none → characters_in (percent ∷ drop i x) ≡ none
-  no_escape e = rw (percent_of (drop i x), e)
+pub left_is : (x : List ℕ) (w : ℕ) → left x w ≡ drop w x
+left_is x w = take_all (length x - w) (drop w x) (omega (arith, length-drop w x))
 
 -- At the end of the text nothing more is counted; a character in front of the rest is one more.
-pub count_end : (x : List ℕ) (i n : ℕ) → length x ≤ i → n ≡ counted n (characters_in (drop i x))
+pub count_end : (x : List ℕ) (i n : ℕ) → length x ≤ i → Some n ≡ counted n (characters_in (drop i x))
 count_end x i n h = rw (at_end x i h, add-zero)
 
-pub count_more : (n c : ℕ) (o p : Option (List ℕ)) → p ≡ put (some c) o → counted (n + 1) o ≡ counted n p
-count_more n c none p e = rw e
-count_more n c (some cs) p e = let k : n + 1 + length cs ≡ n + suc (length cs) = omega arith in rw (e, k)
+pub count_more : (n c : ℕ) (o p : Option (List ℕ)) → p ≡ put (Some c) o → counted (n + 1) o ≡ counted n p
+count_more n c None p e = rw e
+count_more n c (Some cs) p e = let k : n + 1 + length cs ≡ n + suc (length cs) = omega arith in rw (e, k)

@@ -4,8 +4,8 @@ use mathlib.Core.Path.{◌≡◌, sym, ap, ◌∙◌}
 use mathlib.Core.List.{List, ◌++◌, append_assoc}
 use native.Mathlib.Omega.{arith}
 use lib.Dec.{lit<}
-use lib.ListN.{length, take, drop, replicate, length-append, length-drop, length-replicate, replicate-append-replicate}
-use lib.Seq.{take-add, length-take-le, drop-drop}
+use lib.ListN.{length, take, drop, replicate, length-drop, length-replicate, replicate-append-replicate}
+use lib.Seq.{take-add, take_all, length-take-le, drop-drop}
 use Rattle.numeral.specs.Numeral.{numeral, spread, gather, splice}
 use Rattle.numeral.proofs.Values.{digits_take, digits_drop}
 use Rattle.numeral.proofs.Spreads.{length_spread, digits_spread, length_gather, gather_part}
@@ -20,10 +20,6 @@ length_groups b c k = length_gather 2 7 k (take (7 * k) (drop (16 + c) (spread 2
 -- i groups are stored in twenty places, and zeros stand behind them
 abbrev pub Stored : List ℕ → ℕ → ℕ → ℕ → List ℕ → Type 0
 Stored b c k i l = l ≡ take i (groups_at b c k) ++ replicate (20 - i) 0
-
-pub length_stored : (b : List ℕ) (c k i : ℕ) (l : List ℕ) → Stored b c k i l → i ≤ k → k ≤ 20 → length l ≡ 20
-length_stored b c k i l e h m =
-    ap length e ∙ simp (length-append, length-take-le i (groups_at b c k) (omega (arith, length_groups b c k)), length-replicate) (omega arith)
 
 module _ (b : List ℕ) (c k : ℕ) (inside : 0x20 + c + 7 * k ≤ 0x10 + 8 * length b) where
   -- some groups are the number in their own bits
@@ -46,3 +42,7 @@ module _ (b : List ℕ) (c k : ℕ) (inside : 0x20 + c + 7 * k ≤ 0x10 + 8 * le
       let zeros : replicate {A = ℕ} (20 - i) 0 ≡ replicate n 0 ++ replicate (20 - (i + n)) 0 = rw (← count) (sym (replicate-append-replicate n (20 - (i + n)) 0)) in
       rw (some_groups i n h, e, zeros, take-add i n gs, append_assoc)
       (splice_at (take i gs) (replicate n 0) x (replicate (20 - (i + n)) 0) i (length-take-le i gs (omega arith)) (length-replicate n 0 ∙ sym (length-take-le n (drop i gs) (rw length-drop (omega arith)))))
+
+-- all of them
+pub all_groups : (b : List ℕ) (c k : ℕ) {l : List ℕ} → Stored b c k k l → l ≡ groups_at b c k ++ replicate (20 - k) 0
+all_groups b c k e = e ∙ ap (λ gs. gs ++ replicate (20 - k) 0) (take_all k (groups_at b c k) (omega (arith, length_groups b c k)))

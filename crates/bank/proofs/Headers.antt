@@ -1,10 +1,9 @@
 -- The header, the words and the zeros behind the parts, in the code's own terms: o is what the header names, and l the outline of its scheme.
 use Prim.Native.Nat.{ℕ, ◌+◌, ◌-◌, ◌*◌, ◌≤◌, ◌<◌}
-use mathlib.Core.Path.{◌≡◌, refl, sym, ap, ◌∙◌}
+use mathlib.Core.Path.{◌≡◌, sym, ap, ◌∙◌}
 use mathlib.Core.List.{List}
-use mathlib.Core.Option.{Option, none, some}
+use Rattle.std.specs.Prelude.{Option, None, Some}
 use native.Mathlib.Omega.{arith}
-use lib.Dec.{lit≤}
 use lib.ListN.{length}
 use Rattle.rules.specs.Answers.{refused, taken}
 use Rattle.rules.specs.declared.Scheme.{Scheme}
@@ -15,24 +14,10 @@ use Rattle.rules.specs.BankNumbers.{headed, control_in, tag_of_bank}
 use Rattle.rules.proofs.Codes as Codes
 use Rattle.rules.proofs.BankReads.{at_lt, clean_of}
 use Rattle.scheme.specs.declared.outlines.Outline.{Outline}
-use Rattle.scheme.specs.declared.outlines.Headed.{Headed}
-use Rattle.scheme.specs.declared.outlines.Headed.TheVariants.{Is, Unlisted}
-use Rattle.scheme.specs.Outlines.{outline_of, named, headed_by}
-use Rattle.fields.specs.BitReaders.{LiesInCode, code_field, first_one}
+use Rattle.scheme.specs.Outlines.{outline_of}
+use Rattle.fields.specs.BitReaders.{code_field, first_one}
 use Rattle.bank.specs.Reading.{Coded}
 use Rattle.bank.proofs.Stages.{unlisted, few_words, one_after, all_zeros}
-
--- what the option is that is named so
-named_none : (o : Option Scheme) → named o ≡ Unlisted → o ≡ none
-named_none none e = refl
-named_none (some s) e = let z : ◌≡◌ {A = ℕ} 0 1 = cc in absurd (omega arith)
-
-named_some : (o : Option Scheme) (s : Scheme) → named o ≡ Is s → o ≡ some s
-named_some none s e = let z : ◌≡◌ {A = ℕ} 0 1 = cc in absurd (omega arith)
-named_some (some t) s e = cc
-
-pub header_lies : (b : List ℕ) (W : ℕ) → control_in b ≡ taken W → LiesInCode 0 8 (length b)
-header_lies b W c = let k = clean_of b W c in record { narrow = lit≤ tt; first = lit≤ tt; small = lit≤ tt; inside = omega (arith, k.long, k.some_words) }
 
 pub few_counted : (b : List ℕ) (W : ℕ) → control_in b ≡ taken W → W ≤ 31
 few_counted b W c = omega (arith, (clean_of b W c).count, at_lt b 0x10 5)
@@ -44,17 +29,16 @@ pub record Ended (bits z W bytes : ℕ) : Type 0 where
   pub few : W ≤ 31
   pub long : 2 + 2 * W ≤ bytes
 
-module _ (b : List ℕ) (W : ℕ) (c : control_in b ≡ taken W) (h : ℕ) (eh : h ≡ code_field b 0 8) (o : Headed) (eo : o ≡ headed_by h) where
-  names : o ≡ named (headed (code_field b 0 8) schemes)
-  unfolding headed_by
-  names = eo ∙ ap headed_by eh
+module _ (b : List ℕ) (W : ℕ) (c : control_in b ≡ taken W) (h : ℕ) (eh : h ≡ code_field b 0 8) (o : Option Scheme) (eo : o ≡ headed h schemes) where
+  names : o ≡ headed (code_field b 0 8) schemes
+  names = eo ∙ ap (λ h. headed h schemes) eh
 
-  pub no_scheme : o ≡ Unlisted → tag_of_bank b ≡ refused 13 0x20
-  no_scheme e = unlisted b W c (named_none (headed (code_field b 0 8) schemes) (sym names ∙ e))
+  pub no_scheme : o ≡ None → tag_of_bank b ≡ refused 13 0x20
+  no_scheme e = unlisted b W c (sym names ∙ e)
 
-  module _ (s : Scheme) (es : o ≡ Is s) (l : Outline) (el : l ≡ outline_of s) where
-    found : headed (code_field b 0 8) schemes ≡ some s
-    found = named_some (headed (code_field b 0 8) schemes) s (sym names ∙ es)
+  module _ (s : Scheme) (es : o ≡ Some s) (l : Outline) (el : l ≡ outline_of s) where
+    found : headed (code_field b 0 8) schemes ≡ Some s
+    found = sym names ∙ es
 
     words_are : l.words ≡ words s
     words_are = ap (λ l. l.words) el

@@ -11,7 +11,6 @@ mod Answers
 mod Headers
 mod Prefixes
 mod Companies
-mod References
 mod RawTexts
 mod Rooms
 mod PackedRows

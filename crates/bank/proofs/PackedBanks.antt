@@ -4,8 +4,10 @@ use mathlib.Core.Path.{◌≡◌, sym, ap, ◌∙◌}
 use mathlib.Core.List.{List, ◌++◌, append_assoc}
 use native.Mathlib.Omega.{arith}
 use lib.ListN.{length, drop, replicate, length-append, length-replicate}
+use lib.Dec.{lit≤, lit<}
+use Rattle.std.specs.Borrow.{MutBor}
 use Rattle.numeral.specs.Numeral.{numeral, gather}
-use Rattle.numeral.proofs.Values.{length_numeral}
+use Rattle.numeral.proofs.Values.{length_numeral, numeral_nil}
 use Rattle.rules.specs.declared.ControlFields.{ControlFields}
 use Rattle.rules.specs.Schemes.{about}
 use Rattle.rules.specs.ControlFields.{ControlFits}
@@ -14,7 +16,8 @@ use Rattle.rules.specs.Coding.{binary, coded, control_bits, bits_of, bank_size, 
 use Rattle.rules.proofs.Codes.{sizes, content, content_length}
 use Rattle.rules.proofs.Banks.{bank_length}
 use Rattle.bits.specs.declared.Stream.{Stream}
-use Rattle.bits.specs.Streams.{waiting, Streamed}
+use Rattle.bits.specs.declared.Writer.{Writer}
+use Rattle.bits.specs.Streams.{Streamed, Begins, Adds}
 use Rattle.bits.proofs.Pushes.{join}
 use Rattle.bits.proofs.Streams.{counted, kept, continued, ended}
 use Rattle.scheme.specs.declared.outlines.Outline.{Outline}
@@ -23,6 +26,7 @@ use Rattle.scheme.specs.Outlines.{outline_of}
 use Rattle.scheme.specs.Records.{record_of, RecordIs}
 use Rattle.bank.specs.Writing.{Room, start_bits, Keeps, packed, ZerosFit, zeros_to}
 use Rattle.numeral.proofs.Splices.{splice_front}
+use Rattle.bank.proofs.Rooms.{left}
 use Rattle.bank.proofs.PackedParts.{tag_packs}
 use Rattle.bank.proofs.PackedZeros.{zeros_are}
 
@@ -38,10 +42,16 @@ control_is W c fits =
     ap (numeral 2 16) sum ∙ sym (ap (binary 5 W ++◌) (ap (binary 1 u ++◌) eight ∙ one) ∙ word)
 
 -- behind the start there is room for all parts
-pub start_leaves : (W header : ℕ) (c : ControlFields) {l after : List ℕ} {s : Stream} → 64 ≤ length l → Streamed l 0 (start_bits W header c) after s → Room s 224 (length after)
-start_leaves W header c h w =
-    let e = simp (length-append, length_numeral, length-replicate) at (counted w.written) in
-    record { sound = w.sound; room = omega (arith, e, kept w.written) }
+pub start_leaves : (W header : ℕ) (c : ControlFields) {w v : Writer} → Room w 248 → Adds w (start_bits W header c) v → Room v 224
+start_leaves W header c h a = left a h (simp (length-append, length_numeral) (lit≤ tt))
+
+-- what is written from the start on
+from_start : {out : MutBor (List ℕ)} {w v : Writer} {ds : List ℕ} → Begins out w → Adds w ds v → Streamed out.now 0 ds v.out.now v.stream
+from_start b a = rw (b.bytes, b.start, numeral_nil 2 0) at a.written
+
+-- a writer that begins has room for all parts
+pub start_room : {out : MutBor (List ℕ)} {w : Writer} → Begins out w → 64 ≤ length out.now → Room w 248
+start_room b long = record { sound = rw b.start (record { few = lit< tt; clear = lit< tt }); room = rw (b.start, b.bytes) (omega (arith, long)) }
 
 -- A tag in W words: the zeros go from where its parts end to the end of the last of them.
 module _ {r : Record} {τ : Tag} (h : RecordIs r τ) {o : Outline} (e : o ≡ outline_of r.scheme) {W : ℕ} (enough : EnoughWords W r.scheme) where
@@ -89,19 +99,22 @@ module _ {r : Record} {τ : Tag} (h : RecordIs r τ) {o : Outline} (e : o ≡ ou
       let n : k ≡ 16 * W - length (start ++ body) = rw (length-append start, length_numeral, content_length τ.scheme h.fits.parts) (omega (arith, bits_long)) in
       rw (n, outline, ← control_kept) (simp append_assoc)
 
-  module _ {l after : List ℕ} {t : Stream} (w : Streamed l 0 (start_bits W o.header r.control ++ packed o.parts r) after t) where
-    so_far : Streamed l 0 bits after t
+  module _ {out : MutBor (List ℕ)} {w v : Writer} (b : Begins out w) (a : Adds w (start_bits W o.header r.control ++ packed o.parts r) v) where
+    abbrev t : Stream
+    t = v.stream
+
+    so_far : Streamed out.now 0 bits v.out.now t
     unfolding bits
-    so_far = rw body_is at w
+    so_far = rw body_is at (from_start b a)
 
     fill : length bits + zeros_to (bank_size W) t ≡ 8 * bank_size W
     fill = omega (arith, counted so_far.written, bits_long, bits_inside)
 
-    pub takes_zeros : (n : ℕ) → n ≡ bank_size W → 64 ≤ length l → ZerosFit t n (length after)
+    pub takes_zeros : (n : ℕ) → n ≡ bank_size W → 64 ≤ length out.now → ZerosFit v n
     takes_zeros n size long = record {
-      sound = w.sound;
+      sound = a.written.sound;
       before = omega (arith, counted so_far.written, bits_long, bits_inside);
-      inside = omega (arith, kept w.written, fits_tag.1);
+      inside = omega (arith, kept so_far.written, fits_tag.1);
       few = omega (arith, fits_tag.1);
     }
 
@@ -109,10 +122,10 @@ module _ {r : Record} {τ : Tag} (h : RecordIs r τ) {o : Outline} (e : o ≡ ou
     unfolding bank_of
     bank_is = rw (bits_are (zeros_to (bank_size W) t) fill)
 
-    pub ends : (n : ℕ) → n ≡ bank_size W → {after' : List ℕ} {u : Stream} → Streamed after t.at (waiting t ++ replicate (zeros_to n t) 0) after' u
-        → (n ≡ length (bank_of W τ)) × (after' ≡ bank_of W τ ++ drop (length (bank_of W τ)) l)
-    ends n size u =
+    pub ends : (n : ℕ) → n ≡ bank_size W → {u : Writer} → Adds v (replicate (zeros_to n t) 0) u
+        → (n ≡ length (bank_of W τ)) × (u.out.now ≡ bank_of W τ ++ drop (length (bank_of W τ)) out.now)
+    ends n size z =
         let zeros : List ℕ = replicate (zeros_to (bank_size W) t) 0 in
         let all : length (bits ++ zeros) ≡ 8 * bank_size W = rw (length-append bits, length-replicate) fill in
-        let stored = (ended (continued so_far zeros (rw size at u)) (bank_size W) all).0 in
-        (size ∙ sym (bank_length W τ), stored ∙ rw bank_is (splice_front l (bank_of W τ)))
+        let stored = (ended (continued so_far zeros (rw size at z.written)) (bank_size W) all).0 in
+        (size ∙ sym (bank_length W τ), stored ∙ rw bank_is (splice_front out.now (bank_of W τ)))

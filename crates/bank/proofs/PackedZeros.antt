@@ -9,7 +9,8 @@ use lib.Pow.{pow_pos}
 use Rattle.numeral.specs.Numeral.{numeral, splice}
 use Rattle.numeral.proofs.Values.{length_numeral, numeral_nil}
 use Rattle.bits.specs.declared.Stream.{Stream}
-use Rattle.bits.specs.Streams.{waiting, Streamed, Takes}
+use Rattle.bits.specs.declared.Writer.{Writer}
+use Rattle.bits.specs.Streams.{waiting, Streamed, Takes, Adds}
 use Rattle.bits.proofs.Streams.{counted, kept, unstored, continued}
 use Rattle.bits.proofs.Pushes.{pushed}
 use Rattle.bank.specs.Writing.{ZerosFit, zeros_to}
@@ -19,12 +20,18 @@ unfolding numeral
 zeros_are zero = refl
 zeros_are (suc n) = ap (◌++ (0 ∷ [])) (zeros_are n) ∙ replicate-append-replicate n 1 0 ∙ ap (λ k. replicate k 0) (add-one n)
 
-module _ (before : List ℕ) (s : Stream) (n : ℕ) (h : ZerosFit s n (length before)) where
+module _ (w : Writer) (n : ℕ) (h : ZerosFit w n) where
+  abbrev s : Stream
+  s = w.stream
+
+  abbrev before : List ℕ
+  before = w.out.now
+
   -- a stream that stands there
-  pub none_left : s.at ≡ n → Streamed before s.at (waiting s ++ replicate (zeros_to n s) 0) before s
+  pub none_left : s.at ≡ n → Adds w (replicate (zeros_to n s) 0) w
   none_left e =
       let none : zeros_to n s ≡ 0 = omega arith in
-      rw (none, append-nil) (record { sound = h.sound; written = unstored before s (omega (arith, h.before, h.inside)) })
+      record { output = refl; written = rw (none, append-nil) (record { sound = h.sound; written = unstored before s (omega (arith, h.before, h.inside)) }) }
 
   -- up to seven bytes, the first of them with the bits of s
   abbrev bytes : ℕ
@@ -41,7 +48,16 @@ module _ (before : List ℕ) (s : Stream) (n : ℕ) (h : ZerosFit s n (length be
     room = omega (arith, h.before, h.inside, h.sound.few);
   }
 
-  module _ {after : List ℕ} {r : Stream} (u : Streamed before s.at (waiting s ++ numeral 2 width 0) after r) where
+  module _ {v : Writer} (a : Adds w (numeral 2 width 0) v) where
+    abbrev r : Stream
+    r = v.stream
+
+    abbrev after : List ℕ
+    after = v.out.now
+
+    abbrev u : Streamed before s.at (waiting s ++ numeral 2 width 0) after r
+    u = a.written
+
     stands : 8 * r.at + r.count ≡ 8 * s.at + 8 * bytes
     stands = omega (arith, h.before, h.sound.few, simp (length-append, length_numeral) at (counted u.written))
 

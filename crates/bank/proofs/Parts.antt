@@ -12,12 +12,11 @@ use Rattle.numeral.proofs.Values.{value_nil, value_numeral_lt}
 use Rattle.numeral.proofs.Shortest.{value_shortest}
 use Rattle.rules.specs.Answers.{Answer, refused, taken, ◌>>=◌, ◌>>◌, demand, given}
 use Rattle.rules.specs.declared.Table.{Table}
-use Rattle.rules.specs.declared.Last.{Last}
 use Rattle.rules.specs.declared.Last.TheVariants.{Integer, String, Numeric}
 use Rattle.rules.specs.declared.Body.{Body}
 use Rattle.rules.specs.declared.Body.TheVariants.{Then, Zeros, E}
 use Rattle.rules.specs.declared.Parts.TheVariants.{F}
-use Rattle.rules.specs.Schemes.{Form, Row, row_digits, asset_bits, cell, row_at, row_of, prefix_bits, prefix_digits}
+use Rattle.rules.specs.Schemes.{Form, row_digits, asset_bits, cell, row_at, row_of, prefix_bits, prefix_digits}
 use Rattle.rules.specs.Grammar.{laid}
 use Rattle.rules.specs.Coding.{word_count, bank_size}
 use Rattle.rules.specs.Conditions.{partition_in, row_in}
@@ -26,7 +25,6 @@ use Rattle.rules.proofs.Rows.{by_count_lem, row_fair}
 use Rattle.rules.proofs.CodeReads.{take_inside}
 use Rattle.rules.proofs.BankReads.{code_seen}
 use Rattle.scheme.specs.Outlines.{Narrow}
-use Rattle.scheme.specs.Rows.{reference_of}
 use Rattle.fields.specs.BitReaders.{code_field}
 use Rattle.bank.specs.Reading.{prefix_end, shape_of, groups_at}
 use Rattle.bank.proofs.Sizes.{Roomy}
@@ -82,12 +80,6 @@ string_of b (Then t (Numeric n k)) = given (numeric_in k (shortest 10 (code_fiel
 string_of b (Zeros t n) = taken []
 string_of b E = taken []
 
--- the cell of a reference, whatever follows it
-reference_cell : (t : Table) (l : Last) (r : Row) → (shape_of (Then t l) r).cell ≡ reference_of t r
-reference_cell t (Integer n) r = refl
-reference_cell t (String n) r = refl
-reference_cell t (Numeric n k) r = refl
-
 module _ (b : List ℕ) (long : bank_size (word_count b) ≤ length b) (row : partition_in b < 7) (small : code_field b 14 (prefix_bits (row_in b)) < 10 ^ prefix_digits (row_in b)) where
   -- the digits of the prefix pick the row
   picked : row_of (prefix_digits (row_in b)) ≡ row_in b
@@ -117,9 +109,7 @@ module _ (b : List ℕ) (long : bank_size (word_count b) ≤ length b) (row : pa
 
   pub large_reference : (body : Body) → Roomy (word_count b) (row_in b) (shape_of body (row_in b))
       → 10 ^ (shape_of body (row_in b)).cell.digits ≤ code_field b (start b) (shape_of body (row_in b)).cell.bits → fields_in 0x28 (laid (F body)) (drop 8 (code_in b)) ≡ refused 18 (reference_address b)
-  large_reference (Then t l) r h =
-      let inside : behind b t ≤ 16 * word_count b = omega (arith, r.inside, ap (λ k. k.bits) (reference_cell t l (row_in b))) in
-      small_prefix b long (Then t l) (omega arith) (omega arith) small ∙ rw (cell_large t inside (rw (reference_cell t l (row_in b)) at h))
+  large_reference (Then t l) r h = small_prefix b long (Then t l) (omega arith) (omega arith) small ∙ rw (cell_large t (omega arith) h)
   large_reference (Zeros t n) r h = small_prefix b long (Zeros t n) (omega arith) (omega arith) small ∙ rw (cell_large t (omega arith) h)
   large_reference E r h = absurd (omega (arith, no_bits b (start b)))
 

@@ -1,14 +1,13 @@
 -- The raw line, piece after piece.
 use Prim.Native.Nat.{ℕ, ◌+◌, ◌-◌, ◌*◌, ◌≤◌, ◌<◌}
-use mathlib.Core.Path.{◌≡◌, refl, sym, ◌∙◌}
+use mathlib.Core.Path.{◌≡◌, sym, ◌∙◌}
 use mathlib.Core.List.{List, [], ◌∷◌, ◌++◌}
 use native.Mathlib.Omega.{arith}
 use lib.Dec.{lit<}
-use lib.ListN.{length, take, drop, set, length-append, length-take, length-drop}
+use lib.ListN.{length, take, drop, length-append, length-take, length-drop}
 use lib.Seq.{take-add, drop_at, length-take-le}
-use Rattle.numeral.specs.Numeral.{shortest, size, splice}
+use Rattle.numeral.specs.Numeral.{shortest, size}
 use Rattle.numeral.proofs.Shortest.{length_shortest}
-use Rattle.numeral.proofs.Splices.{splice_one, splice_snoc, splice_after}
 use Rattle.rules.specs.Answers.{taken}
 use Rattle.rules.specs.Bytes.{bytes, digits_text, hex_text}
 use Rattle.rules.specs.Coding.{at, word_count, bank_size}
@@ -26,13 +25,6 @@ module _ (b : List ℕ) where
 
   pub some_afi : ¬ (at b 0x17 1 ≡ 0) → afi b ≡ bytes ".x" ++ hex_text (at b 0x18 8 ∷ [])
   some_afi n = let e : at b 0x17 1 ≡ 1 = omega (arith, at_lt b 0x17 1) in rw e
-
--- `.x` and bytes in hexadecimal
-pub field_is : (l : List ℕ) (i : ℕ) (xs : List ℕ) → i + 2 + 2 * length xs ≤ length l
-    → splice (set (set l i 46) (i + 1) 120) (i + 2) (hex_text xs) ≡ splice l i (bytes ".x" ++ hex_text xs)
-field_is l i xs h =
-    rw (← splice_one l i 46 (omega arith), splice_snoc l i (46 ∷ []) 120 (i + 1) refl (omega arith))
-    (splice_after l i (46 ∷ 120 ∷ []) (hex_text xs) (i + 2) (omega arith) refl)
 
 -- The line of a bank of W words: its start, 16 times W, the AFI, the words.
 module _ (b : List ℕ) (W : ℕ) (h : words_in b ≡ taken W) where

@@ -1,29 +1,32 @@
--- One push after the other: what a stream with room takes, and the room that is left behind it.
+-- One push after the other: what a writer with room takes, and the room that is left behind it.
 use Prim.Native.Nat.{ℕ, ◌+◌, ◌^◌, ◌≤◌, ◌<◌}
-use mathlib.Core.Path.{◌≡◌}
+use mathlib.Core.Path.{◌≡◌, ◌∙◌}
 use mathlib.Core.List.{List, ◌++◌, append_assoc}
 use native.Mathlib.Omega.{arith}
 use lib.ListN.{length, length-append}
 use Rattle.numeral.proofs.Values.{length_numeral}
-use Rattle.bits.specs.declared.Stream.{Stream}
-use Rattle.bits.specs.Streams.{waiting, Streamed, Takes}
+use Rattle.bits.specs.declared.Writer.{Writer}
+use Rattle.bits.specs.Streams.{Takes, Adds}
 use Rattle.bits.proofs.Streams.{counted, kept, continued}
 use Rattle.bank.specs.Writing.{Room}
 
-pub takes : {s : Stream} {n bytes : ℕ} → Room s n bytes → (width v : ℕ) → width ≤ 57 → width ≤ n → v < 2 ^ width → Takes s width v bytes
+pub takes : {w : Writer} {n : ℕ} → Room w n → (width v : ℕ) → width ≤ 57 → width ≤ n → v < 2 ^ width → Takes w.stream width v (length w.out.now)
 takes h width v narrow few small = record { sound = h.sound; narrow = narrow; small = small; room = omega (arith, h.room) }
 
-module _ (s : Stream) (xs : List ℕ) {before after : List ℕ} {r : Stream} (w : Streamed before s.at (waiting s ++ xs) after r) where
+pub fewer : {w : Writer} {n : ℕ} → Room w n → (m : ℕ) → m ≤ n → Room w m
+fewer h m l = record { sound = h.sound; room = omega (arith, h.room) }
+
+module _ {w v : Writer} {xs : List ℕ} (a : Adds w xs v) where
   -- of the room for n bits, that for m is left
-  pub left : {n m : ℕ} → Room s n (length before) → length xs + m ≤ n → Room r m (length after)
+  pub left : {n m : ℕ} → Room w n → length xs + m ≤ n → Room v m
   left h l =
-      let e = simp (length-append, length_numeral) at (counted w.written) in
-      record { sound = w.sound; room = omega (arith, h.room, e, kept w.written) }
+      let e = simp (length-append, length_numeral) at (counted a.written.written) in
+      record { sound = a.written.sound; room = omega (arith, h.room, e, kept a.written.written) }
 
   -- the same bits in other words
-  pub same_bits : (ys : List ℕ) → xs ≡ ys → Streamed before s.at (waiting s ++ ys) after r
-  same_bits ys e = rw e at w
+  pub same_bits : {ys : List ℕ} → xs ≡ ys → Adds w ys v
+  same_bits e = rw e at a
 
-  -- the stream goes on with the bits ys
-  pub then : (ys : List ℕ) {after' : List ℕ} {t : Stream} → Streamed after r.at (waiting r ++ ys) after' t → Streamed before s.at (waiting s ++ (xs ++ ys)) after' t
-  then ys u = rw append_assoc at (continued w ys u)
+  -- the writer goes on with the bits ys
+  pub then : {ys : List ℕ} {u : Writer} → Adds v ys u → Adds w (xs ++ ys) u
+  then {ys} b = record { output = b.output ∙ a.output; written = rw append_assoc at (continued a.written ys b.written) }

@@ -1,29 +1,40 @@
 -- The widths and places of the fields of each scheme: they can be read, and they lie in its words.
-use Prim.Native.Nat.{ℕ, ◌+◌, ◌*◌, ◌≤◌, ◌<◌}
+use Prim.Native.Nat.{ℕ, ◌+◌, ◌*◌, ◌/◌, ◌≤◌, ◌<◌}
 use mathlib.Core.Path.{◌≡◌}
 use native.Mathlib.Omega.{arith}
 use Rattle.rules.specs.declared.Scheme.{Scheme}
 use Rattle.rules.specs.declared.Scheme.TheVariants.{Sgtin96, Sgtin198, Sscc96, Sgln96, Sgln195, Grai96, Grai170, Giai96, Gsrn96, Gsrnp96, Gdti96, Gdti174, Gid96, Gdti113, Sgcn96, Cpi96}
 use Rattle.rules.specs.Schemes.{Row, rows, row_at, about, words, prefix_bits}
 use Rattle.rules.proofs.Rows.{AllRows, by_row_lem}
+use Rattle.rules.specs.declared.Last.{Last}
+use Rattle.rules.specs.declared.Last.TheVariants.{Integer, String, Numeric}
 use Rattle.rules.specs.declared.Body.{Body}
 use Rattle.rules.specs.declared.Parts.{Parts}
 use Rattle.rules.specs.declared.Parts.TheVariants.{F, Integers}
 use Rattle.bank.specs.declared.reading.Shape.{Shape}
 use Rattle.bank.specs.Reading.{shape_of}
 
+-- the bits of a last part, and that it can be read
+abbrev pub width : Last → ℕ
+width (Integer n) = n
+width (String n) = 7 * (n / 7)
+width (Numeric n k) = n
+
+abbrev pub Readable : Last → Type 0
+Readable (Integer n) = n ≤ 64
+Readable (String n) = n / 7 ≤ 20
+Readable (Numeric n k) = (n ≤ 64) × (k ≤ 17)
+
 -- what stands behind the company prefix of a row, in W words
 pub record Roomy (W : ℕ) (r : Row) (s : Shape) : Type 0 where
   pub narrow : s.cell.bits ≤ 64
   pub digits : s.cell.digits ≤ 17
-  pub serial : s.serial ≤ 64
-  pub groups : s.groups ≤ 20
-  pub most : s.most ≤ 17
-  pub inside : 14 + prefix_bits r + s.cell.bits + s.serial + 7 * s.groups ≤ 16 * W
+  pub last : Readable s.last
+  pub inside : 14 + prefix_bits r + s.cell.bits + width s.last ≤ 16 * W
 
 -- in more words there is room too
 pub roomier : {W W' : ℕ} {r : Row} {s : Shape} → W ≤ W' → Roomy W r s → Roomy W' r s
-roomier l h = record { narrow = h.narrow; digits = h.digits; serial = h.serial; groups = h.groups; most = h.most; inside = omega (arith, h.inside) }
+roomier l h = record { narrow = h.narrow; digits = h.digits; last = h.last; inside = omega (arith, h.inside) }
 
 -- the parts lie in W words, whatever the row
 abbrev pub Inside : ℕ → Parts → Type 0

@@ -3,7 +3,7 @@ use Prim.Native.Nat.{ℕ, ◌+◌, ◌*◌, ◌≤◌, ◌<◌}
 use mathlib.Core.Path.{◌≡◌, ap, ◌∙◌}
 use mathlib.Core.Bool.{Bool, true, false}
 use mathlib.Core.List.{List}
-use mathlib.Core.Option.{Option, none, some}
+use Rattle.std.specs.Prelude.{Option, None, Some}
 use native.Mathlib.Omega.{arith}
 use lib.Dec.{T, leb, not_T}
 use lib.ListN.{length, drop}
@@ -44,10 +44,10 @@ module _ (b : List ℕ) (W : ℕ) (e : control_in b ≡ taken W) where
   unfolding tag_of_bank
   clean_tag = rw (e, clean.count, code_seen b long 0 8 (omega (arith, clean.some_words)))
 
-  pub unlisted : headed (at b 0x20 8) schemes ≡ none → tag_of_bank b ≡ refused 13 0x20
+  pub unlisted : headed (at b 0x20 8) schemes ≡ None → tag_of_bank b ≡ refused 13 0x20
   unlisted e = clean_tag ∙ ap (coded b) e
 
-  module _ (s : Scheme) (h : headed (at b 0x20 8) schemes ≡ some s) where
+  module _ (s : Scheme) (h : headed (at b 0x20 8) schemes ≡ Some s) where
     pub few_words : W < words s → tag_of_bank b ≡ refused 14 0x10
     few_words w = clean_tag ∙ rw (h, lt-leb (words s) (word_count b) (omega (arith, clean.count)))
 

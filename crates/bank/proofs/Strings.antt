@@ -1,37 +1,28 @@
 -- Characters of a string as one number: the next one, how large it is, and its bits.
-use Prim.Native.Nat.{ℕ, ◌+◌, ◌*◌, ◌^◌, ◌≤◌, ◌<◌}
-use mathlib.Core.Path.{◌≡◌, ◌∙◌}
+use Prim.Native.Nat.{ℕ, ◌+◌, ◌*◌, ◌≤◌, ◌<◌}
+use mathlib.Core.Path.{◌≡◌}
 use mathlib.Core.List.{List}
 use native.Mathlib.Nat.{pow-le-pow_right, lt_of_lt_of_le}
 use native.Mathlib.Numerals.{add-one}
 use native.Mathlib.Omega.{arith}
 use lib.Dec.{lit<}
-use lib.ListN.{length, take, drop, get_or, length-drop}
-use lib.Seq.{take-suc, get_or-drop, length-take-le}
+use lib.ListN.{length, take, get_or}
+use lib.Seq.{take-suc, length-take-le}
 use Rattle.numeral.specs.Numeral.{value, numeral, Digits, spread}
-use Rattle.numeral.proofs.Values.{numeral_of_value, value_snoc, value_lt, digits_take, digits_drop}
+use Rattle.numeral.proofs.Values.{numeral_of_value, value_snoc, value_lt, digits_take, digits_at}
 use Rattle.numeral.proofs.Spreads.{length_spread, digits_spread, value_spread}
 
-module _ (cs : List ℕ) (from : ℕ) where
-  pub next_character : (i : ℕ) → from + i < length cs → value 128 (take (i + 1) (drop from cs)) ≡ value 128 (take i (drop from cs)) * 128 + get_or cs (from + i) 0
-  next_character i h =
-      rw (add-one i, take-suc (drop from cs) i 0 (rw length-drop (omega arith)), value_snoc, get_or-drop from cs i 0)
+-- one more of at most eight characters, behind the first i of them
+module _ (cs : List ℕ) (few : length cs ≤ 8) (h : Digits 128 cs) (i : ℕ) (l : i < length cs) where
+  pub next_character : value 128 (take (i + 1) cs) ≡ value 128 (take i cs) * 128 + get_or cs i 0
+  next_character = rw (add-one i, take-suc cs i 0 l, value_snoc)
 
-  module _ (h : Digits 128 cs) (n : ℕ) (inside : from + n ≤ length cs) where
-    some_digits : Digits 128 (take n (drop from cs))
-    some_digits = digits_take 128 n (drop from cs) (digits_drop 128 from cs h)
+  pub fits : value 128 (take i cs) * 128 + get_or cs i 0 < 0x100000000000000
+  fits =
+      let size : length (take i cs) ≡ i = length-take-le i cs (omega arith) in
+      let seven : i ≤ 7 = omega arith in
+      let small : value 128 (take i cs) < 0x2000000000000 = lt_of_lt_of_le (rw size at (value_lt 128 (take i cs) (digits_take 128 i cs h))) (pow-le-pow_right (lit< tt) seven) in
+      omega (arith, digits_at 128 cs i h l)
 
-    some_length : length (take n (drop from cs)) ≡ n
-    some_length = length-take-le n (drop from cs) (rw length-drop (omega arith))
-
-    pub joined_lt : value 128 (take n (drop from cs)) < 128 ^ n
-    joined_lt = rw some_length at (value_lt 128 (take n (drop from cs)) some_digits)
-
-    pub joined_bits : numeral 2 (7 * n) (value 128 (take n (drop from cs))) ≡ spread 2 7 (take n (drop from cs))
-    joined_bits =
-        let some = take n (drop from cs) in
-        rw (← value_spread 2 7 some some_digits) (numeral_of_value 2 (7 * n) (spread 2 7 some) (digits_spread 2 7 some (lit< tt)) (length_spread 2 7 some ∙ rw some_length))
-
--- seven characters leave room for one more in a word
-pub small : (v n : ℕ) → v < 128 ^ n → n ≤ 7 → v < 0x2000000000000
-small v n h l = lt_of_lt_of_le h (pow-le-pow_right (lit< tt) l)
+pub joined_bits : (cs : List ℕ) → Digits 128 cs → numeral 2 (7 * length cs) (value 128 cs) ≡ spread 2 7 cs
+joined_bits cs h = rw (← value_spread 2 7 cs h) (numeral_of_value 2 (7 * length cs) (spread 2 7 cs) (digits_spread 2 7 cs (lit< tt)) (length_spread 2 7 cs))

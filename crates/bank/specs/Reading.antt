@@ -1,8 +1,9 @@
 -- How far the reading of a bank has come, and what stands behind a company prefix.
 use Rattle.std.specs.Prelude.{ℕ, ◌+◌, ◌-◌, ◌*◌, ◌/◌, ◌^◌, ◌<◌, ◌≤◌, ◌≡◌, List, T, take, drop}
-use Rattle.std.proofs.Math.Option.{some}
-use Rattle.numeral.specs.Numeral.{spread, gather}
+use Rattle.std.specs.Prelude.{Option, Some, option_map, length, replicate}
+use Rattle.numeral.specs.Numeral.{value, shortest, spread, gather}
 use Rattle.rules.specs.declared.Scheme.{Scheme}
+use Rattle.rules.specs.declared.Last.{Last}
 use Rattle.rules.specs.declared.Last.TheVariants.{Integer, String, Numeric}
 use Rattle.rules.specs.declared.Body.{Body}
 use Rattle.rules.specs.declared.Body.TheVariants.{Then, Zeros, E}
@@ -11,18 +12,20 @@ use Rattle.rules.specs.declared.Parts.TheVariants.{F}
 use Rattle.rules.specs.Answers.{taken}
 use Rattle.rules.specs.Schemes.{Row, schemes, about, words, prefix_bits, prefix_digits, asset_bits}
 use Rattle.rules.specs.Coding.{at, word_count}
-use Rattle.rules.specs.BankNumbers.{all_zero, headed, code_in, control_in}
+use Rattle.rules.specs.BankNumbers.{all_zero, headed, code_in, control_in, string_in, numeric_in}
 use Rattle.rules.specs.Conditions.{partition_in, row_in, zeros_from}
 use Rattle.scheme.specs.declared.rows.Cell.{Cell}
 use Rattle.scheme.specs.Rows.{reference_of}
-use Rattle.fields.specs.BitReaders.{code_field}
+use Rattle.scheme.specs.Records.{padded}
+use Rattle.fields.specs.BitReaders.{LiesInCode, code_field}
 use Rattle.bank.specs.declared.reading.Company.{Company}
 use Rattle.bank.specs.declared.reading.Shape.{Shape}
+use Rattle.bank.specs.declared.reading.Ending.{Ending}
 
 -- the rules 9 to 15 do not apply: the words are a code of the scheme s, whose parts are p, and zeros
 pub record Coded (b : List ℕ) (s : Scheme) (p : Parts) : Type 0 where
   pub clean : control_in b ≡ taken (word_count b)
-  pub header : headed (at b 0x20 8) schemes ≡ some s
+  pub header : headed (at b 0x20 8) schemes ≡ Some s
   pub enough : words s ≤ word_count b
   pub zeros : T (all_zero (drop (zeros_from s) (code_in b)))
   pub parts : (about s).parts ≡ p
@@ -54,24 +57,11 @@ pub record Begun (b : List ℕ) (s : Scheme) (body : Body) (c : Company) : Type 
 abbrev pub no_cell : Cell
 no_cell = record { bits = 0; digits = 0 }
 
--- the bits behind the company prefix of a row: the reference, an integer, the groups of a string; what is no part takes none;
--- the most digits of an integer that is a numeric string, 0 for any other
+-- what stands behind the company prefix of a row: the reference, and the last part; a part that a body does not have takes no bits
 abbrev pub shape_of : Body → Row → Shape
-shape_of (Then t (Integer n)) r = record { cell = reference_of t r; serial = n; groups = 0; most = 0 }
-shape_of (Then t (String n)) r = record { cell = reference_of t r; serial = 0; groups = n / 7; most = 0 }
-shape_of (Then t (Numeric n k)) r = record { cell = reference_of t r; serial = n; groups = 0; most = k }
-shape_of (Zeros t n) r = record { cell = reference_of t r; serial = 0; groups = 0; most = 0 }
-shape_of E r = record { cell = no_cell; serial = asset_bits r; groups = 0; most = 0 }
-
--- nor does rule 18: behind the prefix stands the reference v, with no more than its digits
-pub record Referred (b : List ℕ) (s : Scheme) (body : Body) (c : Company) (h : Shape) (v : ℕ) : Type 0 where
-  pub begun : Begun b s body c
-  pub shape : h ≡ shape_of body (row_in b)
-  pub reference : v ≡ code_field b (prefix_end b) h.cell.bits
-  pub small : v < 10 ^ h.cell.digits
-
-abbrev pub reference_end : List ℕ → Shape → ℕ
-reference_end b h = prefix_end b + h.cell.bits
+shape_of (Then t l) r = record { cell = reference_of t r; last = l }
+shape_of (Zeros t n) r = record { cell = reference_of t r; last = Integer 0 }
+shape_of E r = record { cell = no_cell; last = Integer (asset_bits r) }
 
 -- k groups of seven bits, from a code bit on
 abbrev pub groups_at : List ℕ → ℕ → ℕ → List ℕ
@@ -82,3 +72,25 @@ pub record GroupsLie (c k bytes : ℕ) : Type 0 where
   pub most : k ≤ 20
   pub small : c ≤ 0x400
   pub inside : 0x20 + c + 7 * k ≤ 0x10 + 8 * bytes
+
+-- a last part that begins at a code bit lies in so many bytes of a bank
+abbrev pub LastLies : ℕ → Last → ℕ → Type 0
+LastLies c (Integer n) bytes = LiesInCode c n bytes
+LastLies c (String n) bytes = GroupsLie c (n / 7) bytes
+LastLies c (Numeric n k) bytes = LiesInCode c n bytes × (k ≤ 17)
+
+-- the last part of a tag from an integer, from the characters of a string, and from the digits of a numeric string
+abbrev pub integer_ending : ℕ → Ending
+integer_ending v = record { serial = v; characters = replicate 20 0; count = 0 }
+
+abbrev pub string_ending : List ℕ → Ending
+string_ending cs = record { serial = 0; characters = padded cs; count = length cs }
+
+abbrev pub numeric_ending : List ℕ → Ending
+numeric_ending ds = record { serial = value 10 ds; characters = replicate 20 0; count = length ds }
+
+-- the last part that begins at a code bit, unless rule 19 refuses it
+abbrev pub ending_at : List ℕ → ℕ → Last → Option Ending
+ending_at b c (Integer n) = Some (integer_ending (code_field b c n))
+ending_at b c (String n) = option_map string_ending (string_in (groups_at b c (n / 7)))
+ending_at b c (Numeric n k) = option_map numeric_ending (numeric_in k (shortest 10 (code_field b c n)))

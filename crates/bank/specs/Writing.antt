@@ -1,5 +1,5 @@
 -- The bits of a record's fields, the limits that the fields keep, and the room that a stream has for them.
-use Rattle.std.specs.Prelude.{ℕ, ◌+◌, ◌-◌, ◌*◌, ◌/◌, ◌^◌, ◌≤◌, ◌<◌, List, ◌++◌, take}
+use Rattle.std.specs.Prelude.{ℕ, ◌+◌, ◌-◌, ◌*◌, ◌/◌, ◌^◌, ◌≤◌, ◌<◌, List, ◌++◌, length, take}
 use Rattle.numeral.specs.Numeral.{Digits, spread}
 use Rattle.rules.specs.declared.ControlFields.{ControlFields}
 use Rattle.rules.specs.declared.Table.{Table}
@@ -13,14 +13,15 @@ use Rattle.rules.specs.Schemes.{cell, asset_bits, partition, prefix_bits, row_of
 use Rattle.rules.specs.Coding.{binary, control_bits}
 use Rattle.rules.specs.Calls.{bank_room}
 use Rattle.bits.specs.declared.Stream.{Stream}
+use Rattle.bits.specs.declared.Writer.{Writer}
 use Rattle.bits.specs.Streams.{Sound}
 use Rattle.tens.specs.Numerics.{one_before}
 use Rattle.scheme.specs.declared.record.Record.{Record}
 
--- so many bytes have room for n more bits of the stream s
-pub record Room (s : Stream) (n bytes : ℕ) : Type 0 where
-  pub sound : Sound s
-  pub room : s.at + (s.count + n) / 8 ≤ bytes
+-- the output of the writer w has room for n more bits
+pub record Room (w : Writer) (n : ℕ) : Type 0 where
+  pub sound : Sound w.stream
+  pub room : w.stream.at + (w.stream.count + n) / 8 ≤ length w.out.now
 
 -- the control word, with the word count and the control bits, and the header
 abbrev pub start_bits : ℕ → ℕ → ControlFields → List ℕ
@@ -96,12 +97,12 @@ abbrev pub packed : Parts → Record → List ℕ
 packed (F body) r = company_bits r ++ behind_bits body r
 packed (Integers a b c) r = binary a r.prefix ++ (binary b r.reference ++ binary c r.serial)
 
--- the zeros from where a stream stands to byte n, and that they lie in so many bytes
+-- the zeros from where a stream stands to byte n, and that they lie in the output of its writer
 abbrev pub zeros_to : ℕ → Stream → ℕ
 zeros_to n s = 8 * (n - s.at) - s.count
 
-pub record ZerosFit (s : Stream) (n bytes : ℕ) : Type 0 where
-  pub sound : Sound s
-  pub before : 8 * s.at + s.count ≤ 8 * n
-  pub inside : n ≤ bytes
+pub record ZerosFit (w : Writer) (n : ℕ) : Type 0 where
+  pub sound : Sound w.stream
+  pub before : 8 * w.stream.at + w.stream.count ≤ 8 * n
+  pub inside : n ≤ length w.out.now
   pub few : n ≤ bank_room

@@ -1,21 +1,22 @@
 // A bank to the record of its tag: the rules 9 to 19, in their order (document 01, "Numbers given, and when"). Each function goes on where
-// the one before it stopped, and returns the whole bank's result.
+// the one before it stopped, with the same reader.
 ghost use Rattle.std.specs.Prelude.{◌≡◌, ◌-◌, ◌<◌, ◌++◌, length, replicate};
 ghost use Rattle.rules.specs.Schemes.{zero_bits, row_at};
 ghost use Rattle.rules.specs.Answers.{taken};
 ghost use Rattle.rules.specs.BankNumbers.{control_in, tag_of_bank};
 ghost use Rattle.scheme.specs.Records.{reading_of};
-ghost use Rattle.bank.specs.Reading.{Coded, Begun, Referred, header_end, prefix_end, reference_end, shape_of, groups_at, GroupsLie};
+ghost use Rattle.bank.specs.Reading.{Coded, Begun, header_end, prefix_end, shape_of, groups_at, GroupsLie, LastLies, ending_at};
 
-use fields::bitreader::{first_one, take};
+use fields::bitreader::{BitReader, first_one};
 use fields::control;
 use fields::control::WORD_COUNT;
 use rules::{Body, Last, MOST_CHARACTERS, Parts, Scheme};
 use scheme::counts::CodeBit;
-use scheme::outlines::{Headed, about, by_header};
-use scheme::record::{Reading, Record, refused, refused_at};
+use scheme::outlines::{about, by_header};
+use scheme::record::{Reading, Record};
+use scheme::refusal::Rule;
+use scheme::rows;
 use scheme::rows::Cell;
-use scheme::{refusal, rows};
 use tens::{behind_one, power};
 
 // The zero bits at the end of the code.
@@ -23,23 +24,17 @@ fn zeros(p: Parts) -> usize
     ensures { result ≡ zero_bits p }
 {
     match p {
-        Parts::F(body) => match body {
-            Body::Then(_, _) => 0,
-            Body::Zeros(_, n) => n,
-            Body::E => 0,
-        },
-        Parts::Integers(_, _, _) => 0,
+        Parts::F(Body::Zeros(_, n)) => n,
+        _ => 0,
     }
 }
 
-// What stands behind the company prefix: the bits and digits of the reference, the bits of an integer, the groups of a string. What a scheme
-// does not have takes no bits. A numeric string is an integer too, and `most` is how many digits it may have, 0 for any other.
+// What stands behind the company prefix: the bits and digits of the reference, and the last part. A reference or a last part that a scheme does
+// not have takes no bits.
 #[derive(Drop)]
 struct Shape {
     cell: Cell,
-    serial: usize,
-    groups: usize,
-    most: usize,
+    last: Last,
 }
 
 fn shape_in(body: Body, row: usize) -> Shape
@@ -47,82 +42,93 @@ fn shape_in(body: Body, row: usize) -> Shape
     ensures { result ≡ shape_of body (row_at row) }
 {
     match body {
-        Body::Then(t, l) => match l {
-            Last::Integer(n) => Shape {
-                cell: rows::reference(t, row),
-                serial: n,
-                groups: 0,
-                most: 0,
-            },
-            Last::String(n) => Shape {
-                cell: rows::reference(t, row),
-                serial: 0,
-                groups: n / 7,
-                most: 0,
-            },
-            Last::Numeric(n, k) => Shape {
-                cell: rows::reference(t, row),
-                serial: n,
-                groups: 0,
-                most: k,
-            },
+        Body::Then(t, last) => Shape {
+            cell: rows::reference(t, row),
+            last,
         },
         Body::Zeros(t, _) => Shape {
             cell: rows::reference(t, row),
-            serial: 0,
-            groups: 0,
-            most: 0,
+            last: Last::Integer(0),
         },
         Body::E => Shape {
             cell: Cell { bits: 0, digits: 0 },
-            serial: rows::asset(row),
-            groups: 0,
-            most: 0,
+            last: Last::Integer(rows::asset(row)),
         },
     }
 }
 
-// The k groups of seven bits from a code bit on, zeros behind them.
-fn groups(bank: &[u8], from: CodeBit, k: usize) -> [u8; MOST_CHARACTERS]
-    requires { GroupsLie from.0 k (length bank.now) }
-    ensures { result ≡ groups_at bank.now from.0 k ++ replicate (20 - k) 0 }
+// The next k groups of seven bits, zeros behind them. Eight are taken at once, as one number of 56 bits.
+fn groups(mut reader: BitReader, k: usize) -> [u8; MOST_CHARACTERS]
+    requires { GroupsLie reader.at.0 k (length reader.bank.now) }
+    ensures { result ≡ groups_at reader.entry.bank.now reader.entry.at.0 k ++ replicate (20 - k) 0 }
 {
     let mut groups = [0u8; MOST_CHARACTERS];
-    let mut at = from;
-    let mut i = 0;
-    while i < k {
-        let n = bits::least(k - i, 8);
-        let next = take(bank, at, 7 * n);
-        bits::split(&mut groups, i, n, next.value, 128);
-        at = next.at;
-        i += n;
+    for i in (0..k).step_by(8) {
+        let n = (k - i).min(8);
+        let next = reader.take(7 * n);
+        bits::split(&mut groups, i, n, next, 128);
     }
     groups
 }
 
-// The parts of gid-96: three integers.
-fn general(bank: &[u8], at: CodeBit, s: Scheme, a: usize, b: usize, c: usize) -> Reading
-    requires { Coded bank.now s (Parts.Integers a b c) × (at.0 ≡ header_end) }
-    ensures { result ≡ reading_of (tag_of_bank bank.now) }
+// The last part of a tag: an integer, the digits of a numeric string or the characters of a string, in fixed memory, no heap.
+#[derive(Drop)]
+struct Ending {
+    serial: u64,
+    characters: [u8; MOST_CHARACTERS],
+    count: usize,
+}
+
+// The last part at the reader's place. There is none where rule 19 refuses it.
+fn last_part(mut reader: BitReader, last: Last) -> Option<Ending>
+    requires { LastLies reader.at.0 last (length reader.bank.now) }
+    ensures { result ≡ ending_at reader.entry.bank.now reader.entry.at.0 last }
 {
-    let first = take(bank, at, a);
-    let second = take(bank, first.at, b);
-    let third = take(bank, second.at, c);
-    Reading {
-        number: 0,
-        place: 0,
-        tag: Record {
-            scheme: s,
-            control: control::fields(bank),
-            filter: 0,
-            prefix: first.value,
-            digits: 0,
-            reference: second.value,
-            serial: third.value,
+    match last {
+        Last::Integer(n) => Some(Ending {
+            serial: reader.take(n),
             characters: [0; MOST_CHARACTERS],
             count: 0,
-        },
+        }),
+        Last::String(n) => {
+            let characters = groups(reader, n / 7);
+            let count = alphabet::count(&characters[..n / 7])?;
+            Some(Ending {
+                serial: 0,
+                characters,
+                count,
+            })
+        }
+        Last::Numeric(n, most) => {
+            let digits = behind_one(reader.take(n), most)?;
+            Some(Ending {
+                serial: digits.value,
+                characters: [0; MOST_CHARACTERS],
+                count: digits.count,
+            })
+        }
     }
+}
+
+// The parts of gid-96: three integers.
+fn general(mut reader: BitReader, s: Scheme, a: usize, b: usize, c: usize) -> Reading
+    requires { Coded reader.bank.now s (Parts.Integers a b c) × (reader.at.0 ≡ header_end) }
+    ensures { result ≡ reading_of (tag_of_bank reader.entry.bank.now) }
+{
+    let prefix = reader.take(a);
+    let reference = reader.take(b);
+    let serial = reader.take(c);
+    Ok(Record {
+        scheme: s,
+        control: control::fields(reader.bank),
+        filter: 0,
+        prefix,
+        digits: 0,
+        reference,
+        serial,
+        characters: [0; MOST_CHARACTERS],
+        count: 0,
+    })
 }
 
 // What is read up to the company prefix: the filter, the partition value, the digits of the prefix and its value.
@@ -134,101 +140,61 @@ struct Company {
     prefix: u64,
 }
 
-// What follows the reference, where it is a numeric string: rule 19.
-fn numeric_behind(
-    bank: &[u8],
-    at: CodeBit,
-    s: Scheme,
-    body: Body,
-    company: Company,
-    shape: Shape,
-    reference: u64,
-) -> Reading
-    requires { Referred bank.now s body company shape reference × (at.0 ≡ reference_end bank.now shape) × (¬ (shape.most ≡ 0)) }
-    ensures { result ≡ reading_of (tag_of_bank bank.now) }
-{
-    let digits = behind_one(take(bank, at, shape.serial).value, shape.most);
-    if digits.count == 0 {
-        return refused_at(refusal::STRING, at);
-    }
-    Reading {
-        number: 0,
-        place: 0,
-        tag: Record {
-            scheme: s,
-            control: control::fields(bank),
-            filter: company.filter,
-            prefix: company.prefix,
-            digits: company.digits,
-            reference,
-            serial: digits.value,
-            characters: [0; MOST_CHARACTERS],
-            count: digits.count,
-        },
-    }
-}
-
 // What follows the company prefix: rules 18 and 19.
-fn behind_prefix(bank: &[u8], at: CodeBit, s: Scheme, body: Body, company: Company) -> Reading
-    requires { Begun bank.now s body company × (at.0 ≡ prefix_end bank.now) }
-    ensures { result ≡ reading_of (tag_of_bank bank.now) }
+fn behind_prefix(mut reader: BitReader, s: Scheme, body: Body, company: Company) -> Reading
+    requires { Begun reader.bank.now s body company × (reader.at.0 ≡ prefix_end reader.bank.now) }
+    ensures { result ≡ reading_of (tag_of_bank reader.entry.bank.now) }
 {
+    let control = control::fields(reader.bank);
     let shape = shape_in(body, company.row);
-    let reference = take(bank, at, shape.cell.bits);
-    if power(shape.cell.digits) <= reference.value {
-        return refused_at(refusal::REFERENCE_TOO_LARGE, at);
+    let at = reader.at;
+    let reference = reader.take(shape.cell.bits);
+    if power(shape.cell.digits) <= reference {
+        return Err(Rule::ReferenceTooLarge.at_bit(at));
     }
-    if shape.most != 0 {
-        return numeric_behind(bank, reference.at, s, body, company, shape, reference.value);
-    }
-    let characters = groups(bank, reference.at, shape.groups);
-    let count = alphabet::count(&characters, shape.groups);
-    if count == 0 {
-        if shape.groups != 0 {
-            return refused_at(refusal::STRING, reference.at);
-        }
-    }
-    let serial = take(bank, reference.at, shape.serial);
-    Reading {
-        number: 0,
-        place: 0,
-        tag: Record {
-            scheme: s,
-            control: control::fields(bank),
-            filter: company.filter,
-            prefix: company.prefix,
-            digits: company.digits,
-            reference: reference.value,
-            serial: serial.value,
-            characters,
-            count,
-        },
-    }
+    let behind = reader.at;
+    let Ending {
+        serial,
+        characters,
+        count,
+    } = last_part(reader, shape.last).ok_or(Rule::String.at_bit(behind))?;
+    Ok(Record {
+        scheme: s,
+        control,
+        filter: company.filter,
+        prefix: company.prefix,
+        digits: company.digits,
+        reference,
+        serial,
+        characters,
+        count,
+    })
 }
 
 // The parts of any other scheme, a filter and a partition table: rules 16 to 19.
-fn partitioned(bank: &[u8], at: CodeBit, s: Scheme, body: Body) -> Reading
-    requires { Coded bank.now s (Parts.F body) × (at.0 ≡ header_end) }
-    ensures { result ≡ reading_of (tag_of_bank bank.now) }
+fn partitioned(mut reader: BitReader, s: Scheme, body: Body) -> Reading
+    requires { Coded reader.bank.now s (Parts.F body) × (reader.at.0 ≡ header_end) }
+    ensures { result ≡ reading_of (tag_of_bank reader.entry.bank.now) }
 {
-    let filter = take(bank, at, 3);
-    let partition = take(bank, filter.at, 3);
-    let row = partition.value as usize;
+    let filter = reader.take(3);
+    let partition_at = reader.at;
+    let row = reader.take(3) as usize;
     if row == 7 {
-        return refused_at(refusal::PARTITION, filter.at);
+        return Err(Rule::Partition.at_bit(partition_at));
     }
     let cell = rows::prefix(row);
-    let prefix = take(bank, partition.at, cell.bits);
-    if power(cell.digits) <= prefix.value {
-        return refused_at(refusal::PREFIX_TOO_LARGE, partition.at);
+    let prefix_at = reader.at;
+    let prefix = reader.take(cell.bits);
+    if power(cell.digits) <= prefix {
+        return Err(Rule::PrefixTooLarge.at_bit(prefix_at));
     }
     let company = Company {
-        filter: filter.value,
+        filter,
         row,
         digits: cell.digits,
-        prefix: prefix.value,
+        prefix,
     };
-    behind_prefix(bank, prefix.at, s, body, company)
+    behind_prefix(reader, s, body, company)
 }
 
 // The code: rules 13 to 15, and its parts.
@@ -236,24 +202,23 @@ fn coded(bank: &[u8], words: usize) -> Reading
     requires { control_in bank.now ≡ taken words }
     ensures { result ≡ reading_of (tag_of_bank bank.now) }
 {
-    let header = take(bank, CodeBit(0), 8);
-    let Headed::Is(s) = by_header(header.value as u8) else {
-        return refused_at(refusal::HEADER, CodeBit(0));
-    };
+    let mut reader = BitReader::new(bank, CodeBit(0));
+    let header = reader.take(8);
+    let s = by_header(header as u8).ok_or(Rule::Header.at_bit(CodeBit(0)))?;
     let outline = about(s);
     if words < outline.words {
-        return refused(refusal::WORD_COUNT, WORD_COUNT.0);
+        return Err(Rule::WordCount.at(WORD_COUNT.0));
     }
     // all bits behind the parts must be 0: the 24, the fill, and the words that the scheme doesn't need
     let p = outline.parts;
     let end = 16 * words;
     let one = first_one(bank, CodeBit(outline.bits - zeros(p)), end);
     if one.0 < end {
-        return refused_at(refusal::FILL_BITS, one);
+        return Err(Rule::FillBits.at_bit(one));
     }
     match p {
-        Parts::Integers(a, b, c) => general(bank, header.at, s, a, b, c),
-        Parts::F(body) => partitioned(bank, header.at, s, body),
+        Parts::Integers(a, b, c) => general(reader, s, a, b, c),
+        Parts::F(body) => partitioned(reader, s, body),
     }
 }
 
@@ -261,10 +226,6 @@ fn coded(bank: &[u8], words: usize) -> Reading
 pub fn read(bank: &[u8]) -> Reading
     ensures { result ≡ reading_of (tag_of_bank bank.now) }
 {
-    let control = control::clean(bank);
-    let number = control.number;
-    if number != 0 {
-        return refused(number, control.place);
-    }
-    coded(bank, control.words)
+    let words = control::clean(bank)?;
+    coded(bank, words)
 }

@@ -1,8 +1,10 @@
 -- A stream of bits that fills bytes: full bytes are stored, and the bits left over wait.
 use Rattle.std.specs.Prelude.{◌≡◌, ℕ, ◌+◌, ◌/◌, ◌^◌, ◌≤◌, ◌<◌, List, ◌++◌, length}
+use Rattle.std.specs.Borrow.{MutBor}
 use Rattle.numeral.specs.Numeral.{numeral, Digits, splice}
 use Rattle.bits.specs.Bits.{bits}
 use Rattle.bits.specs.declared.Stream.{Stream}
+use Rattle.bits.specs.declared.Writer.{Writer}
 
 -- the bits that wait
 abbrev pub waiting : Stream → List ℕ
@@ -33,3 +35,14 @@ pub record Takes (s : Stream) (width v bytes : ℕ) : Type 0 where
   pub narrow : width ≤ 57
   pub small : v < 2 ^ width
   pub room : s.at + (s.count + width) / 8 ≤ bytes
+
+-- the writer w has the output `out`, and nothing is written yet
+pub record Begins (out : MutBor (List ℕ)) (w : Writer) : Type 0 where
+  pub output : w.out.ghost_name ≡ out.ghost_name
+  pub bytes : w.out.now ≡ out.now
+  pub start : w.stream ≡ record { at = 0; bits = 0; count = 0 }
+
+-- the writer v is w with the bits xs behind its stream, in the same output
+pub record Adds (w : Writer) (xs : List ℕ) (v : Writer) : Type 0 where
+  pub output : v.out.ghost_name ≡ w.out.ghost_name
+  pub written : Streamed w.out.now w.stream.at (waiting w.stream ++ xs) v.out.now v.stream

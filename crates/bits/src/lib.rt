@@ -2,10 +2,10 @@
 // base, stored one to a byte.
 #![tactic(auto)]
 
-ghost use Rattle.std.specs.Prelude.{◌≡◌, ◌++◌, ◌+◌, ◌-◌, ◌*◌, ◌/◌, ◌%◌, ◌^◌, min, ◌≤◌, ◌<◌, length};
+ghost use Rattle.std.specs.Prelude.{◌≡◌, ◌+◌, ◌-◌, ◌*◌, ◌/◌, ◌%◌, ◌^◌, min, ◌≤◌, ◌<◌, length};
 ghost use Rattle.numeral.specs.Numeral.{numeral, splice};
 ghost use Rattle.bits.specs.Bits.{field_at, Within};
-ghost use Rattle.bits.specs.Streams.{waiting, Streamed, Takes};
+ghost use Rattle.bits.specs.Streams.{Takes, Begins, Adds};
 
 // Where a stream of bits stands. The bytes before index `at` are stored. Bits that do not fill a byte yet wait: they are the `count` low
 // bits of `bits`, fewer than eight.
@@ -32,13 +32,6 @@ fn low(v: u64, n: usize) -> u64
     v & ((1 << n) - 1)
 }
 
-// The smaller of two numbers.
-pub fn least(a: usize, b: usize) -> usize
-    ensures { result ≡ min a b }
-{
-    if a < b { a } else { b }
-}
-
 // The number in the n bits from bit `at` on, where they lie in one byte.
 fn piece(bank: &[u8], at: usize, n: usize) -> u64
     requires { (at % 8 + n ≤ 8) × (at + n ≤ 8 * length bank.now) }
@@ -59,26 +52,23 @@ pub fn rest_of_byte(bank: &[u8], at: usize) -> u64
     bank[at / 8] as u64 & (255 >> (at % 8))
 }
 
-// The number in the byte that begins at bit `at`.
-fn byte(bank: &[u8], at: usize) -> u64
-    requires { (at % 8 ≡ 0) × (at + 8 ≤ 8 * length bank.now) }
-    ensures { result ≡ field_at bank.now at 8 }
-{
-    bank[at / 8] as u64
-}
-
-// The number in the `width` bits from bit `at` on. It is read in pieces: the bits up to the end of the first byte, whole bytes, and the
+// The number in the `width` bits from bit `at` on: a piece of one byte, or the bits up to the end of the first byte, whole bytes, and the
 // first bits of the last byte.
 pub fn field(bank: &[u8], at: usize, width: usize) -> u64
     requires { Within at width (length bank.now) }
     ensures { result ≡ field_at bank.now at width }
 {
-    let mut done = least(8 - at % 8, width);
-    let mut v = piece(bank, at, done);
-    while done + 8 <= width {
-        v = joined(v, 8, byte(bank, at + done));
-        done += 8;
+    let first = 8 - at % 8;
+    if width <= first {
+        return piece(bank, at, width);
     }
+    let from = at / 8 + 1;
+    let whole = (width - first) / 8;
+    let mut v = rest_of_byte(bank, at);
+    for &b in &bank[from..from + whole] {
+        v = joined(v, 8, b as u64);
+    }
+    let done = first + 8 * whole;
     joined(v, width - done, piece(bank, at + done, width - done))
 }
 
@@ -87,27 +77,48 @@ pub fn split(out: &mut [u8], from: usize, n: usize, v: u64, base: u64)
     requires { (from + n ≤ length out.old) × (0 < base) × (base ≤ 256) }
     ensures { out.new ≡ splice out.old from (numeral base n v) }
 {
-    let mut i = n;
     let mut rest = v;
-    while 0 < i {
-        i -= 1;
-        out[from + i] = (rest % base) as u8;
-        rest = rest / base;
+    // by index: behind `iter_mut().rev()` a proof knows nothing of the elements
+    for i in (from..from + n).rev() {
+        out[i] = (rest % base) as u8;
+        rest /= base;
     }
 }
 
-// Writes the `width` bits of v behind the stream s. Each byte that is full is stored, once, and the bits left over wait.
-pub fn push(out: &mut [u8], s: Stream, width: usize, v: u64) -> Stream
-    requires { Takes s width v (length out.old) }
-    ensures { Streamed out.old s.at (waiting s ++ numeral 2 width v) out.new result }
-{
-    let all = joined(s.bits, width, v);
-    let count = (s.count + width) % 8;
-    let whole = (s.count + width) / 8;
-    split(out, s.at, whole, all >> count, 256);
-    Stream {
-        at: s.at + whole,
-        bits: low(all, count),
-        count,
+// An output that is lent, and the stream that is written into it.
+#[derive(Drop)]
+pub struct Writer<'a> {
+    pub out: &'a mut [u8],
+    pub stream: Stream,
+}
+
+impl<'a> Writer<'a> {
+    // Nothing is written yet, and no bits wait.
+    pub fn new(out: &'a mut [u8]) -> Writer<'a>
+        ensures { Begins out.entry result }
+    {
+        let stream = Stream {
+            at: 0,
+            bits: 0,
+            count: 0,
+        };
+        Writer { out, stream }
+    }
+
+    // Writes the `width` bits of v behind the stream. Each byte that is full is stored, once, and the bits left over wait.
+    pub fn push(&mut self, width: usize, v: u64)
+        requires { Takes self.old.stream width v (length self.old.out.now) }
+        ensures { Adds self.old (numeral 2 width v) self.new }
+    {
+        let s = self.stream;
+        let all = joined(s.bits, width, v);
+        let count = (s.count + width) % 8;
+        let whole = (s.count + width) / 8;
+        split(self.out, s.at, whole, all >> count, 256);
+        self.stream = Stream {
+            at: s.at + whole,
+            bits: low(all, count),
+            count,
+        };
     }
 }

@@ -11,8 +11,7 @@ use borrow.Author.Tests.{ne_eqb, le-leb, lt-leb}
 use Rattle.rules.specs.Coding.{most_words}
 use Rattle.rules.specs.Calls.{Call}
 use Rattle.rules.specs.Screen.{screen}
-use Rattle.codec.specs.Answers.{answered, number_of, place_of, words_of, length_of}
-use Rattle.codec.specs.declared.Answer.{Answer}
+use Rattle.codec.specs.Answers.{Answer, answered, number_of, place_of, words_of, length_of}
 use Rattle.capi.specs.declared.Reply.{Reply}
 use Rattle.capi.specs.declared.Shown.{Shown}
 use Rattle.capi.specs.Replies.{Narrow, replied, Shows}

@@ -21,7 +21,7 @@ pub struct Reply {
     pub length: usize,
 }
 
-// The two texts that a line on the screen can be a part of.
+// The two texts that a line on the screen can be a part of: numbers, as C reads them.
 const TAG_TEXT: u32 = 0;
 
 const RAW_TEXT: u32 = 1;
@@ -34,6 +34,7 @@ pub struct Shown {
     pub length: usize,
 }
 
+// An answer in numbers. `From` has no `requires`, and 16 bits hold a place and a W of the calls alone.
 fn in_numbers(answer: Answer) -> Reply
     requires { Narrow (place_of answer) (words_of answer) }
     ensures number { result.number ≡ number_of answer }
@@ -42,15 +43,15 @@ fn in_numbers(answer: Answer) -> Reply
     ensures length { result.length ≡ length_of answer }
 {
     match answer {
-        Answer::Written(length, words) => Reply {
+        Ok(written) => Reply {
             number: 0,
             place: 0,
-            words: words as u16,
-            length: length,
+            words: written.words as u16,
+            length: written.length,
         },
-        Answer::Refused(number, place) => Reply {
-            number: number as u32,
-            place: place as u16,
+        Err(refusal) => Reply {
+            number: refusal.rule.number() as u32,
+            place: refusal.place as u16,
             words: 0,
             length: 0,
         },

@@ -14,21 +14,22 @@ use Rattle.rules.specs.Calls.{Output, words_to_write, bank_of_text}
 use Rattle.rules.specs.Promises.{Asks}
 use Rattle.rules.specs.Conditions.{TooFew}
 use Rattle.rules.proofs.Answers.{Settled}
-use Rattle.rules.proofs.Codes.{sizes}
 use Rattle.rules.proofs.AskedWords.{words_settled, asked_enough}
+use Rattle.scheme.specs.declared.refusal.Refusal.{Refusal}
 use Rattle.scheme.specs.declared.record.Record.{Record}
 use Rattle.scheme.specs.Records.{record_of, RecordIs}
-use Rattle.codec.specs.Answers.{words_or0}
+use Rattle.scheme.specs.Refusals.{number, rule_of, by, refusal, in_code}
+use Rattle.std.specs.Prelude.{Ok, Err}
 
 -- the W to write, by the tests of the W asked for
 module _ (W : ℕ) (s : Scheme) where
-  pub smallest : W ≡ 0 → words_or0 (words_to_write W s) ≡ words s
+  pub smallest : W ≡ 0 → in_code (words_to_write W s) ≡ Ok (words s)
   smallest e = rw e
 
-  pub none : ¬ (W ≡ 0) → W < words s → words_or0 (words_to_write W s) ≡ 0
-  none z l = rw (ne_eqb W 0 z, lt-leb (words s) W l)
+  pub too_small : ¬ (W ≡ 0) → W < words s → in_code (words_to_write W s) ≡ refusal 22 0
+  too_small z l = rw (ne_eqb W 0 z, lt-leb (words s) W l)
 
-  pub itself : ¬ (W ≡ 0) → words s ≤ W → words_or0 (words_to_write W s) ≡ W
+  pub itself : ¬ (W ≡ 0) → words s ≤ W → in_code (words_to_write W s) ≡ Ok W
   itself z l = rw (ne_eqb W 0 z, le-leb (words s) W l)
 
 -- a tag's record has its scheme
@@ -46,8 +47,8 @@ module _ (W : ℕ) (t : List ℕ) where
     unfolding bank_of_text
     text_refused n p e = rw (le-leb W most_words most, e)
 
-    -- the text is a tag's, and v words are to be written
-    module _ (τ : Tag) (e : tag_of_text t ≡ taken τ) (v : ℕ) (ev : v ≡ words_or0 (words_to_write W τ.scheme)) where
+    -- the text is a tag's, and r is what is asked for in code
+    module _ (τ : Tag) (e : tag_of_text t ≡ taken τ) where
       abbrev s : Scheme
       s = τ.scheme
 
@@ -55,17 +56,18 @@ module _ (W : ℕ) (t : List ℕ) where
       unfolding bank_of_text
       after_text = rw (le-leb W most_words most, e)
 
-      pub too_few : v ≡ 0 → bank_of_text W t ≡ refused 22 0
-      too_few z = after_text ∙ go (words_to_write W s) (words_settled W s) ev
+      pub too_few : (r : Refusal) → Err r ≡ in_code (words_to_write W s) → bank_of_text W t ≡ refused (number r.rule) r.place
+      too_few r q = after_text ∙ go (words_to_write W s) (words_settled W s) q
         where
-          go : (a : Answer ℕ) → Settled 22 (TooFew W s) (◌≡ 0) (λ n. Asks W s n × (words s ≤ n)) a → v ≡ words_or0 a → ◌>>=◌ {Y = Output} a (λ n. taken (n, bank_of n τ)) ≡ refused 22 0
-          go (refused n p) h f = rw (h.0, h.1)
-          go (taken n) h f = absurd (omega (arith, h.1.1, (sizes s).some_words))
+          go : (a : Answer ℕ) → Settled 22 (TooFew W s) (◌≡ 0) (λ n. Asks W s n × (words s ≤ n)) a → Err r ≡ in_code a
+              → ◌>>=◌ {Y = Output} a (λ n. taken (n, bank_of n τ)) ≡ refused (number r.rule) r.place
+          go (refused n p) h f = let x : r ≡ by (rule_of n) p = cc in rw (x, h.0, h.1)
+          go (taken n) h f = let z : ◌≡◌ {A = ℕ} 0 1 = cc in absurd (omega arith)
 
-      pub enough_words : ¬ (v ≡ 0) → EnoughWords v s × (bank_of_text W t ≡ taken (v, bank_of v τ))
-      enough_words z = let (x, y) = go (words_to_write W s) (words_settled W s) ev in (x, after_text ∙ y)
+      pub enough_words : (v : ℕ) → Ok v ≡ in_code (words_to_write W s) → EnoughWords v s × (bank_of_text W t ≡ taken (v, bank_of v τ))
+      enough_words v q = let (x, y) = go (words_to_write W s) (words_settled W s) q in (x, after_text ∙ y)
         where
-          go : (a : Answer ℕ) → Settled 22 (TooFew W s) (◌≡ 0) (λ n. Asks W s n × (words s ≤ n)) a → v ≡ words_or0 a
+          go : (a : Answer ℕ) → Settled 22 (TooFew W s) (◌≡ 0) (λ n. Asks W s n × (words s ≤ n)) a → Ok v ≡ in_code a
               → EnoughWords v s × (◌>>=◌ {Y = Output} a (λ n. taken (n, bank_of n τ)) ≡ taken (v, bank_of v τ))
-          go (refused n p) h f = absurd (z f)
-          go (taken n) h f = rw f (asked_enough W s n most h.1.0 h.1.1, refl)
+          go (refused n p) h f = let z : ◌≡◌ {A = ℕ} 0 1 = cc in absurd (omega arith)
+          go (taken n) h f = let x : v ≡ n = cc in rw x (asked_enough W s n most h.1.0 h.1.1, refl)

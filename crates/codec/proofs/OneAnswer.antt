@@ -11,9 +11,12 @@ use Rattle.rules.specs.Coding.{bank_of}
 use Rattle.rules.specs.Raw.{raw_text}
 use Rattle.rules.specs.Calls.{Call, text_to_bank, bank_to_text, raw_line}
 use Rattle.rules.proofs.OneAnswer as rules
-use Rattle.codec.specs.Answers.{answered}
-use Rattle.codec.specs.declared.Answer.{Answer}
-use Rattle.codec.specs.declared.Answer.TheVariants.{Written, Refused}
+use Rattle.std.specs.Prelude.{Ok, Err}
+use Rattle.scheme.specs.declared.refusal.Refusal.{Refusal}
+use Rattle.scheme.specs.Refusals.{number, by, rule_of}
+use Rattle.scheme.proofs.Numbers.{rule_of_number}
+use Rattle.codec.specs.Answers.{Answer, answered}
+use Rattle.codec.specs.declared.Written.{Written}
 
 pub text_full : (τ : Tag) → 0 < length (text_of τ)
 unfolding text_of start
@@ -47,14 +50,16 @@ raw_line_full b out e =
     rw (n, r.1) (raw_full b)
 
 module _ (c : Call) (full : Full c) where
-  told_apart : (n W m i : ℕ) (o p : List ℕ) → answered (Written n W) o ≡ c → ¬ (answered (Refused m i) p ≡ c)
-  told_apart n W m i o p e f = omega (arith, full (sym (ap (λ x. x.number) e)), ap (λ x. x.written) f)
+  told_apart : (w : Written) (e : Refusal) (o p : List ℕ) → answered (Ok w) o ≡ c → ¬ (answered (Err e) p ≡ c)
+  told_apart w e o p f g = omega (arith, full (sym (ap (λ x. x.number) f)), ap (λ x. x.written) g)
 
   pub one_answer : (r s : Answer) (o p : List ℕ) → answered r o ≡ c → answered s p ≡ c → (r ≡ s) × (o ≡ p)
-  one_answer (Written n W) (Written m W') o p e f = (ap (λ x. Written x.written x.words) (e ∙ sym f), ap (λ x. x.output) (e ∙ sym f))
-  one_answer (Refused n i) (Refused m j) o p e f = (ap (λ x. Refused x.number x.place) (e ∙ sym f), ap (λ x. x.output) (e ∙ sym f))
-  one_answer (Written n W) (Refused m i) o p e f = absurd (told_apart n W m i o p e f)
-  one_answer (Refused n i) (Written m W) o p e f = absurd (told_apart m W n i p o f e)
+  one_answer (Ok w) (Ok v) o p e f = (ap (λ x. Ok (record { length = x.written; words = x.words })) (e ∙ sym f), ap (λ x. x.output) (e ∙ sym f))
+  one_answer (Err d) (Err g) o p e f =
+      let same : ◌≡◌ {A = Answer} (Err (by (rule_of (number d.rule)) d.place)) (Err (by (rule_of (number g.rule)) g.place)) = ap (λ x. Err (by (rule_of x.number) x.place)) (e ∙ sym f) in
+      (rw (rule_of_number d.rule, rule_of_number g.rule) at same, ap (λ x. x.output) (e ∙ sym f))
+  one_answer (Ok w) (Err d) o p e f = absurd (told_apart w d o p e f)
+  one_answer (Err d) (Ok w) o p e f = absurd (told_apart w d p o f e)
 
 module _ (r s : Answer) (o p : List ℕ) where
   pub one_answer_of_text_to_bank : (W : ℕ) (t out : List ℕ) → answered r o ≡ text_to_bank W t out → answered s p ≡ text_to_bank W t out → (r ≡ s) × (o ≡ p)

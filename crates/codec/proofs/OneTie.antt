@@ -11,9 +11,8 @@ use Rattle.rules.specs.Answers.{Answer as RulesAnswer, refused, taken, ◌>>=◌
 use Rattle.rules.specs.Coding.{within}
 use Rattle.rules.specs.Calls.{Output, call, lent, bank_room, text_room, text_answer, bank_answer, text_to_bank, bank_to_text}
 use Rattle.rules.proofs.Again.{shown_text, written_bank}
-use Rattle.codec.specs.Answers.{answered}
+use Rattle.codec.specs.Answers.{Answer, answered}
 use Rattle.codec.specs.Ties.{written_again, shown_again}
-use Rattle.codec.specs.declared.Answer.{Answer}
 use Rattle.codec.proofs.OneAnswer.{Full, written_full, shown_full, text_full, bank_full, one_answer}
 
 -- a first answer a, whose refusals have a number, and then w, which is not empty

@@ -16,36 +16,38 @@ use Rattle.rules.proofs.Banks
 use Rattle.codec.specs.Answers.{answered}
 use Rattle.codec.proofs.OneAnswer.{shown_full, written_full}
 use Rattle.codec.specs.Ties.{written_again, shown_again}
-use Rattle.codec.specs.declared.Answer.TheVariants.{Written, Refused}
+use Rattle.std.specs.Prelude.{Ok, Err}
+use Rattle.scheme.specs.declared.refusal.Refusal.{Refusal}
+use Rattle.codec.specs.declared.Written.{Written}
 
 -- a first call's answer `a`, then a second that gives `f o` for the W and the bytes o that the first gave
 module _ (a : Answer Output) (before after : List ℕ) where
-  room_for : (n W : ℕ) → answered (Written n W) after ≡ call before a → n ≤ length after
+  room_for : (v : Written) → answered (Ok v) after ≡ call before a → v.length ≤ length after
   room_for = go a
     where
-      go : (a : Answer Output) (n W : ℕ) → answered (Written n W) after ≡ call before a → n ≤ length after
-      go (refused m p) n W e = omega (arith, ap (λ c. c.written) e)
-      go (taken (n', w)) n W e =
+      go : (a : Answer Output) (v : Written) → answered (Ok v) after ≡ call before a → v.length ≤ length after
+      go (refused m p) v e = omega (arith, ap (λ c. c.written) e)
+      go (taken (n', w)) v e =
           rw (ap (λ c. c.output) e, length-append) (omega (arith, ap (λ c. c.written) e))
 
   module _ (full : (call before a).number ≡ 0 → 0 < (call before a).written) (f z : Output → Answer Output) (same : (o : Output) → a ≡ taken o → f o ≡ z o) (out : List ℕ) where
-    then_second : (n W : ℕ) → answered (Written n W) after ≡ call before a → call out (f (W, take n after)) ≡ call out (a >>= z)
-    then_second n W e = go a refl
+    then_second : (v : Written) → answered (Ok v) after ≡ call before a → call out (f (v.words, take v.length after)) ≡ call out (a >>= z)
+    then_second v e = go a refl
       where
-        go : (x : Answer Output) → a ≡ x → call out (f (W, take n after)) ≡ call out (x >>= z)
+        go : (x : Answer Output) → a ≡ x → call out (f (v.words, take v.length after)) ≡ call out (x >>= z)
         go (refused m p) q =
-            let g : answered (Written n W) after ≡ call before (refused m p) = e ∙ ap (call before) q in
+            let g : answered (Ok v) after ≡ call before (refused m p) = e ∙ ap (call before) q in
             let k : 0 < (call before a).written = full (ap (λ x. (call before x).number) q ∙ sym (ap (λ c. c.number) g)) in
             absurd (omega (arith, k, ap (λ x. (call before x).written) q))
         go (taken (n', w)) q =
-            let g : answered (Written n W) after ≡ call before (taken (n', w)) = e ∙ ap (call before) q in
-            let t : take n after ≡ w = ap (λ c. take c.written c.output) g ∙ take_at w (drop (length w) before) (length w) refl in
+            let g : answered (Ok v) after ≡ call before (taken (n', w)) = e ∙ ap (call before) q in
+            let t : take v.length after ≡ w = ap (λ c. take c.written c.output) g ∙ take_at w (drop (length w) before) (length w) refl in
             ap (call out) (ap₂ (λ W w. f (W, w)) (ap (λ c. c.words) g) t ∙ same (n', w) q)
 
-    then_none : (n p : ℕ) → answered (Refused n p) after ≡ call before a → answered (Refused n p) out ≡ call out (a >>= z)
-    then_none n p e = go a refl
+    then_none : (r : Refusal) → answered (Err r) after ≡ call before a → answered (Err r) out ≡ call out (a >>= z)
+    then_none r e = go a refl
       where
-        go : (x : Answer Output) → a ≡ x → answered (Refused n p) out ≡ call out (x >>= z)
+        go : (x : Answer Output) → a ≡ x → answered (Err r) out ≡ call out (x >>= z)
         go (refused m i) q = ap (λ c. call out (refused c.number c.place)) (e ∙ ap (call before) q)
         go (taken (n', w)) q =
             let k : 0 < (call before a).written = full (ap (λ x. (call before x).number) q) in
@@ -69,19 +71,19 @@ module _ (b text out : List ℕ) (d : Digits 256 b) where
       let same : o.1 ≡ text_of τ = sym (first_wrote text (text_answer b text) o e) ∙ t in
       rw (bank_of_lem W W o.1 τ (record { fits = bank.fits; text = same }) (itself W τ.scheme bank.enough.0) bank.enough, sym bank.bank)
 
-  module _ (n W : ℕ) (after : List ℕ) where
-    pub shown_room : answered (Written n W) after ≡ bank_to_text b text → n ≤ length after
+  module _ (v : Written) (after : List ℕ) where
+    pub shown_room : answered (Ok v) after ≡ bank_to_text b text → v.length ≤ length after
     unfolding bank_to_text
-    shown_room = room_for (text_answer b text) text after n W
+    shown_room = room_for (text_answer b text) text after v
 
     -- what is shown, written again
-    pub shown_again_lem : answered (Written n W) after ≡ bank_to_text b text → text_to_bank W (take n after) out ≡ written_again b text out
+    pub shown_again_lem : answered (Ok v) after ≡ bank_to_text b text → text_to_bank v.words (take v.length after) out ≡ written_again b text out
     unfolding bank_to_text text_to_bank written_same
-    shown_again_lem = then_second (text_answer b text) text after (shown_full b text d) (λ o. bank_answer o.0 o.1 out) written_same bank_again out n W
+    shown_again_lem = then_second (text_answer b text) text after (shown_full b text d) (λ o. bank_answer o.0 o.1 out) written_same bank_again out v
 
-  pub not_shown : (n p : ℕ) (after : List ℕ) → answered (Refused n p) after ≡ bank_to_text b text → answered (Refused n p) out ≡ written_again b text out
+  pub not_shown : (r : Refusal) (after : List ℕ) → answered (Err r) after ≡ bank_to_text b text → answered (Err r) out ≡ written_again b text out
   unfolding bank_to_text written_same
-  not_shown n p after = then_none (text_answer b text) text after (shown_full b text d) (λ o. bank_answer o.0 o.1 out) written_same bank_again out n p
+  not_shown r after = then_none (text_answer b text) text after (shown_full b text d) (λ o. bank_answer o.0 o.1 out) written_same bank_again out r
 
 own_of : (w : List ℕ) (W : ℕ) (τ : Tag) → EnoughWords W τ.scheme → TagFits τ → w ≡ bank_of W τ → TagBank w W τ
 own_of w W τ enough fits e = rw e (Banks.own_bank W τ enough fits)
@@ -101,16 +103,16 @@ module _ (asked : ℕ) (t bank out : List ℕ) where
       let own = own_of o.1 o.0 τ (rw words at r.enough) r.text.fits same in
       rw (Banks.tag_of o.1 o.0 τ own, Banks.words_of o.1 o.0 τ own, sym r.text.text)
 
-  module _ (n W : ℕ) (after : List ℕ) where
-    pub written_room : answered (Written n W) after ≡ text_to_bank asked t bank → n ≤ length after
+  module _ (v : Written) (after : List ℕ) where
+    pub written_room : answered (Ok v) after ≡ text_to_bank asked t bank → v.length ≤ length after
     unfolding text_to_bank
-    written_room = room_for (bank_answer asked t bank) bank after n W
+    written_room = room_for (bank_answer asked t bank) bank after v
 
     -- what is written, shown again
-    pub written_again_lem : answered (Written n W) after ≡ text_to_bank asked t bank → bank_to_text (take n after) out ≡ shown_again asked t bank out
+    pub written_again_lem : answered (Ok v) after ≡ text_to_bank asked t bank → bank_to_text (take v.length after) out ≡ shown_again asked t bank out
     unfolding bank_to_text text_to_bank shown_same
-    written_again_lem = then_second (bank_answer asked t bank) bank after (written_full asked t bank) (λ o. text_answer o.1 out) shown_same text_again out n W
+    written_again_lem = then_second (bank_answer asked t bank) bank after (written_full asked t bank) (λ o. text_answer o.1 out) shown_same text_again out v
 
-  pub not_written : (n p : ℕ) (after : List ℕ) → answered (Refused n p) after ≡ text_to_bank asked t bank → answered (Refused n p) out ≡ shown_again asked t bank out
+  pub not_written : (r : Refusal) (after : List ℕ) → answered (Err r) after ≡ text_to_bank asked t bank → answered (Err r) out ≡ shown_again asked t bank out
   unfolding text_to_bank shown_same
-  not_written n p after = then_none (bank_answer asked t bank) bank after (written_full asked t bank) (λ o. text_answer o.1 out) shown_same text_again out n p
+  not_written r after = then_none (bank_answer asked t bank) bank after (written_full asked t bank) (λ o. text_answer o.1 out) shown_same text_again out r

@@ -9,12 +9,8 @@ pub fn write_again(bank: &[u8], text: &mut [u8], out: &mut [u8]) -> crate::Answe
     ensures again { answered result out.new ≡ written_again bank.now text.old out.old }
     ensures shown { text.new ≡ (bank_to_text bank.now text.old).output }
 {
-    match crate::bank_to_text(bank, text) {
-        crate::Answer::Written(length, words) => {
-            crate::text_to_bank(&text[..length], words, out)
-        }
-        crate::Answer::Refused(number, place) => crate::Answer::Refused(number, place),
-    }
+    let shown = crate::bank_to_text(bank, text)?;
+    crate::text_to_bank(&text[..shown.length], shown.words, out)
 }
 
 // What text to bank writes, bank to text shows as the same text, and the W that was written.
@@ -22,8 +18,6 @@ pub fn show_again(text: &[u8], words: usize, bank: &mut [u8], out: &mut [u8]) ->
     ensures again { answered result out.new ≡ shown_again words text.now bank.old out.old }
     ensures written { bank.new ≡ (text_to_bank words text.now bank.old).output }
 {
-    match crate::text_to_bank(text, words, bank) {
-        crate::Answer::Written(length, _) => crate::bank_to_text(&bank[..length], out),
-        crate::Answer::Refused(n, place) => crate::Answer::Refused(n, place),
-    }
+    let written = crate::text_to_bank(text, words, bank)?;
+    crate::bank_to_text(&bank[..written.length], out)
 }

@@ -8,13 +8,15 @@ use native.Mathlib.Nat.{add-zero}
 use lib.Dec.{lit<}
 use lib.ListN.{length, drop, set, length-append, drop_of_length-le}
 use lib.Seq.{take_all}
+use Rattle.std.specs.Borrow.{MutBor}
 use Rattle.numeral.specs.Numeral.{numeral, size, shortest, splice}
 use Rattle.numeral.proofs.Arithmetic.{lt_or_ge}
 use Rattle.numeral.proofs.Values.{length_numeral}
 use Rattle.numeral.proofs.Shortest.{length_shortest}
 use Rattle.numeral.proofs.Splices.{splice_nil, splice_one, splice_splice, splice_front}
 use Rattle.rules.specs.Bytes.{digits_text}
-use Rattle.digits.specs.Pieces.{Puts}
+use Rattle.digits.specs.declared.Output.{Output}
+use Rattle.digits.specs.Pieces.{Puts, Begins, Adds}
 use Rattle.digits.proofs.Texts.{length_text}
 
 -- past the end of a list a splice appends
@@ -52,3 +54,28 @@ integer_put v e f = record { end = rw (length_text (shortest 10 v), length_short
 
 pub number_put : (n v : ℕ) {s t : List ℕ} (at : ℕ) → t ≡ splice s at (digits_text (numeral 10 n v)) → Puts (digits_text (numeral 10 n v)) at s (at + n) t
 number_put n v at f = record { end = rw (length_text (numeral 10 n v), length_numeral 10 n v); bytes = f }
+
+-- Pieces added to an output: v is w with x behind it.
+module _ {w v : Output} {x : List ℕ} (a : Adds w x v) where
+  -- the same bytes in other words
+  pub same_bytes : {y : List ℕ} → x ≡ y → Adds w y v
+  same_bytes e = rw e at a
+
+  -- the output goes on with y
+  pub then : {y : List ℕ} {u : Output} → Adds v y u → Adds w (x ++ y) u
+  then b = record { output = b.output ∙ a.output; size = b.size ∙ a.size; puts = join a.puts b.puts }
+
+-- nothing is added
+pub nothing : (w : Output) → Adds w [] w
+nothing w = record { output = refl; size = refl; puts = nothing_put w.out.now w.at }
+
+-- what is added to an output that holds nothing yet stands at its start
+pub begun : {o : MutBor (List ℕ)} {w v : Output} {x : List ℕ} → Begins o w → Adds w x v → Puts x 0 o.now v.at v.out.now
+begun b a = rw (b.bytes, b.start) at a.puts
+
+-- where an output stands behind n digits, and behind an integer
+pub digits_end : {w u : Output} (n v : ℕ) → Adds w (digits_text (numeral 10 n v)) u → u.at ≡ w.at + n
+digits_end n v a = omega (arith, a.puts.end, length_text (numeral 10 n v), length_numeral 10 n v)
+
+pub integer_end : {w u : Output} (v : ℕ) → Adds w (digits_text (shortest 10 v)) u → u.at ≡ w.at + size 10 v
+integer_end v a = omega (arith, a.puts.end, length_text (shortest 10 v), length_shortest 10 (lit< tt) v)

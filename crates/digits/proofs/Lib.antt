@@ -5,7 +5,5 @@ pub mod Runs
 pub mod Parts
 pub mod Copies
 pub mod Pairs
-pub mod Alls
-pub mod Fours
 pub mod Starts
 pub mod Joins

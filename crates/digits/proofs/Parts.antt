@@ -4,7 +4,7 @@ use Prim.Native.Char.{code}
 use mathlib.Core.Path.{◌≡◌, refl, ap, ap₂, ◌∙◌}
 use mathlib.Core.Logic.{⊎_elim}
 use mathlib.Core.List.{List, [], ◌∷◌, ◌++◌}
-use mathlib.Core.Option.{some}
+use Rattle.std.specs.Prelude.{Some}
 use mathlib.Core.Bool.{true}
 use native.Mathlib.Omega.{arith}
 use native.Mathlib.Nat.{mul-le-mul_right, pow-le-pow_right}
@@ -42,12 +42,12 @@ run_of (suc n) (d ∷ ds) u h l = let (b, e) = character_is d h.0 in rw (b, e, r
 pub record PartIs (t ds u : List ℕ) : Type 0 where
   pub dotted : among dot t ≡ true
   pub text : upto dot t ≡ digits_text ds
-  pub digits : digits_in (upto dot t) ≡ some ds
+  pub digits : digits_in (upto dot t) ≡ Some ds
   pub rest : behind dot t ≡ u
 
 -- no part of n digits or fewer stands up to the next dot of t
 abbrev pub NoPart : ℕ → List ℕ → Type 0
-NoPart n t = (es : List ℕ) → digits_in (upto dot t) ≡ some es → among dot t ≡ true → n < length es
+NoPart n t = (es : List ℕ) → digits_in (upto dot t) ≡ Some es → among dot t ≡ true → n < length es
 
 module _ (n : ℕ) (t : List ℕ) where
   pub is_a_part : (u : List ℕ) → drop (length (leading_digits n t)) t ≡ dot ∷ u → PartIs t (leading_digits n t) u

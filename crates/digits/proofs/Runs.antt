@@ -3,8 +3,7 @@ use Prim.Native.Nat.{ℕ, zero, suc, ◌+◌, ◌-◌, ◌*◌, ◌^◌, ◌≤�
 use Prim.Native.Char.{code}
 use mathlib.Core.Path.{◌≡◌, refl, sym, ap, ap₂, ◌∙◌}
 use mathlib.Core.List.{List, [], ◌∷◌, ◌++◌, map}
-use mathlib.Core.Option
-use mathlib.Core.Option.{none, some}
+use Rattle.std.specs.Prelude.{None, Some, option_map}
 use mathlib.Core.Bool.{Bool, true, false, ◌&&◌, cond}
 use native.Mathlib.Omega.{arith}
 use native.Mathlib.Numerals.{add-one}
@@ -42,7 +41,7 @@ leading (suc n) (x ∷ t) = go (is_digit x) refl (leading n t)
     go true e r = more e r
     go false e r = stop (other e)
 
-pub digit_is : (x : ℕ) → is_digit x ≡ true → (code "0" ≤ x) × (x ≤ code "9")
+digit_is : (x : ℕ) → is_digit x ≡ true → (code "0" ≤ x) × (x ≤ code "9")
 digit_is x e =
     let (l, u) = both (leb (code "0") x) (leb x (code "9")) (rw e tt) in
     (leb→le (code "0") x l, leb→le x (code "9") u)
@@ -96,19 +95,19 @@ run_stops (more f r) (suc i) l e = ap suc (run_stops r i (omega arith) e)
 
 -- The digits of the whole text.
 
-digits_in_lem : (t : List ℕ) → digits_in t ≡ cond (all is_digit t) (some (map (◌- code "0") t)) none
+digits_in_lem : (t : List ℕ) → digits_in t ≡ cond (all is_digit t) (Some (map (◌- code "0") t)) None
 digits_in_lem [] = refl
 digits_in_lem (x ∷ t) = rw (digits_in_lem t) (go (is_digit x) (all is_digit t))
   where
-    go : (a b : Bool) → cond a (Option.map ((x - code "0") ∷◌) (cond b (some (map (◌- code "0") t)) none)) none ≡ cond (a && b) (some (map (◌- code "0") (x ∷ t))) none
+    go : (a b : Bool) → cond a (option_map ((x - code "0") ∷◌) (cond b (Some (map (◌- code "0") t)) None)) None ≡ cond (a && b) (Some (map (◌- code "0") (x ∷ t))) None
     go true true = refl
     go true false = refl
     go false b = refl
 
-pub digits_some : (t : List ℕ) → all is_digit t ≡ true → digits_in t ≡ some (map (◌- code "0") t)
+pub digits_some : (t : List ℕ) → all is_digit t ≡ true → digits_in t ≡ Some (map (◌- code "0") t)
 digits_some t h = digits_in_lem t ∙ rw h
 
-pub digits_none : (t : List ℕ) → all is_digit t ≡ false → digits_in t ≡ none
+pub digits_none : (t : List ℕ) → all is_digit t ≡ false → digits_in t ≡ None
 digits_none t h = digits_in_lem t ∙ rw h
 
 -- whether all bytes are digits is decided by those behind the run
@@ -121,24 +120,18 @@ run_first (stop s) = refl
 run_first (more {x = x} e r) = ap ((x - code "0") ∷◌) (run_first r)
 
 -- the run is followed by digits, or by nothing
-pub run_long : {n : ℕ} {t ds : List ℕ} → Leading n t ds → all is_digit t ≡ true → (es : List ℕ) × (digits_in t ≡ some (ds ++ es)) × (length ds + length es ≡ length t)
+pub run_long : {n : ℕ} {t ds : List ℕ} → Leading n t ds → all is_digit t ≡ true → (es : List ℕ) × (digits_in t ≡ Some (ds ++ es)) × (length ds + length es ≡ length t)
 run_long {t = t} {ds = ds} r h =
     let rest : List ℕ = drop (length ds) t in
-    (map (◌- code "0") rest, digits_some t h ∙ ap some (run_first r), rw (length-map rest (◌- code "0"), length-drop (length ds) t) (omega (arith, run_within r)))
+    (map (◌- code "0") rest, digits_some t h ∙ ap Some (run_first r), rw (length-map rest (◌- code "0"), length-drop (length ds) t) (omega (arith, run_within r)))
 
-pub run_full : {n : ℕ} {t ds : List ℕ} → Leading n t ds → all is_digit t ≡ true → n ≤ length t → length ds ≡ n
-run_full (stop full) h l = refl
-run_full (stop ended) h l = omega arith
-run_full (stop (other e)) h l = clash h (rw e)
-run_full (more e r) h l = ap suc (run_full r (rw e at h) (omega arith))
-
-pub run_whole : {n : ℕ} {t ds : List ℕ} → Leading n t ds → length ds ≡ length t → digits_in t ≡ some ds
+pub run_whole : {n : ℕ} {t ds : List ℕ} → Leading n t ds → length ds ≡ length t → digits_in t ≡ Some ds
 run_whole (stop {t = []} s) l = refl
 run_whole (stop {t = x ∷ t} s) l = absurd (omega arith)
 run_whole (more e r) l = rw (e, run_whole r (omega arith))
 
 -- the run is followed by a byte that is no digit
-pub run_breaks : {n x : ℕ} {t ds u : List ℕ} → Leading n t ds → length ds < n → drop (length ds) t ≡ x ∷ u → digits_in t ≡ none
+pub run_breaks : {n x : ℕ} {t ds u : List ℕ} → Leading n t ds → length ds < n → drop (length ds) t ≡ x ∷ u → digits_in t ≡ None
 run_breaks {t = t} r l e = digits_none t (rest_digits r ∙ rw (e, run_ends r l e))
 
 -- a text from index i on: the byte there, and the rest

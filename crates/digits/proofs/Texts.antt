@@ -10,9 +10,9 @@ use lib.Seq.{take-suc, length-take-le}
 use borrow.Author.Tests.{lt-ltb, le-ltb}
 use lib.Dec.{lit<, ltb, eqb, eqb→eq}
 use Rattle.numeral.specs.Numeral.{numeral, size, shortest, splice}
-use Rattle.numeral.proofs.Values.{length_numeral, numeral_snoc}
+use Rattle.numeral.proofs.Values.{length_numeral, numeral_nil, numeral_snoc}
 use Rattle.numeral.proofs.Shortest.{length_shortest, shortest_small, shortest_large}
-use Rattle.numeral.proofs.Splices.{splice_one, splice_snoc, splice_behind}
+use Rattle.numeral.proofs.Splices.{splice_nil, splice_one, splice_snoc, splice_behind}
 use Rattle.rules.specs.Bytes.{digits_text, hex_digit, hex_text}
 use Rattle.rules.proofs.Tests.{below_is}
 
@@ -46,6 +46,9 @@ put_digit s at v n h =
 pub digit_more : (s z : List ℕ) (at v i : ℕ) → 0 < i → at + i ≤ length s → splice s at (digits_text (numeral 10 i v)) ≡ z
     → splice (set s (at + (i - 1)) (code "0" + v % 10)) at (digits_text (numeral 10 (i - 1) (v / 10))) ≡ z
 digit_more s z at v i p h e = let one : i - 1 + 1 ≡ i = omega arith in put_digit s at v (i - 1) (omega arith) ∙ rw one e
+
+pub none_left : (s : List ℕ) (at v i : ℕ) → i ≤ 0 → splice s at (digits_text (numeral 10 i v)) ≡ s
+none_left s at v i h = let none : i ≡ 0 = omega arith in rw (none, numeral_nil) (splice_nil s at)
 
 -- Hexadecimal.
 

@@ -1,5 +1,4 @@
--- Laws: of a step over the code, then of the control word.
-pub mod Steps
+-- Laws: of a bit reader, and of the first one bit.
+pub mod Readers
 pub mod Zeros
 pub mod Ones
-pub mod Controls

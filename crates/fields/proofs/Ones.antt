@@ -66,6 +66,3 @@ module _ (b : List ℕ) (c w end : ℕ) (l : c + w ≤ end) (lie : 0x20 + end �
       let v = code_field b c w in
       let e = upto_in (binary w v) (code_bits b (c + w) end) (rw length_numeral (zeros_some v w (at_lt b (0x20 + c) w) narrow some)) in
       omega (arith, ap (λ l. length (upto 1 l)) split, e)
-
-pub none_left : (b : List ℕ) (end : ℕ) → first_one b end end ≡ end
-none_left b end = let k : end - end ≡ 0 = omega arith in rw k (omega arith)

@@ -5,10 +5,7 @@ use Rattle.numeral.specs.Numeral.{spread}
 use Rattle.rules.specs.Bytes.{upto}
 use Rattle.rules.specs.Coding.{at}
 use Rattle.scheme.specs.declared.counts.CodeBit.{CodeBit}
-use Rattle.scheme.specs.Counts.{behind_of}
-use Rattle.fields.specs.declared.bitreader.Step.{Step}
 use Rattle.fields.specs.declared.bitreader.BitReader.{BitReader}
-use Rattle.fields.specs.declared.bitreader.Taken.{Taken}
 
 -- the `width` bits from an address on fit a word of 64 bits and lie in so many bytes of a bank, which starts at address 10h; the
 -- address is small, so that no sum of it overflows
@@ -25,9 +22,6 @@ LiesInCode c width bytes = Lies (0x20 + c) width bytes
 -- the number in the `width` bits from a code bit on
 abbrev pub code_field : List ℕ → ℕ → ℕ → ℕ
 code_field bank c width = at bank (0x20 + c) width
-
-abbrev pub step_of : List ℕ → CodeBit → ℕ → Step
-step_of bank c width = record { value = code_field bank c.0 width; at = behind_of c width }
 
 -- the bits of the code from c on and before the end, which is a byte's end, lie in so many bytes of a bank; the end is bounded so that no sum of
 -- places overflows
@@ -47,7 +41,3 @@ first_one bank c end = c + length (upto 1 (code_bits bank c end))
 -- a reader of a bank that stands at a code bit
 abbrev pub reader_of : Bor (List ℕ) → CodeBit → BitReader
 reader_of bank c = record { bank = bank; at = c }
-
--- what a reader takes: the number in the next bits, and the same bank behind them
-abbrev pub taken_of : BitReader → ℕ → Taken
-taken_of r width = record { value = code_field r.bank.now r.at.0 width; rest = record { bank = r.bank; at = behind_of r.at width } }

@@ -1,3 +1,2 @@
 -- The terms in which the contracts of this crate speak, beside the written rules.
 pub mod BitReaders
-pub mod Controls

@@ -3,7 +3,8 @@
 ghost use Rattle.std.specs.Prelude.{◌≡◌, ◌^◌, ◌≤◌, ◌<◌, length};
 ghost use Rattle.rules.specs.Bytes.{upto};
 ghost use Rattle.rules.specs.Coding.{binary, at};
-ghost use Rattle.fields.specs.BitReaders.{Lies, LiesInCode, AllLie, step_of, first_one, reader_of, taken_of};
+ghost use Rattle.fields.specs.BitReaders.{Lies, LiesInCode, AllLie, code_field, first_one, reader_of};
+ghost use Rattle.scheme.specs.Counts.{behind_of};
 
 use scheme::counts::{BankAddress, CodeBit};
 
@@ -15,23 +16,12 @@ pub fn field_at(bank: &[u8], a: BankAddress, width: usize) -> u64
     bits::field(bank, a.index(), width)
 }
 
-// A number that was taken, and the code bit behind its bits.
-#[derive(Drop)]
-pub struct Step {
-    pub value: u64,
-    pub at: CodeBit,
-}
-
-// The number in the `width` bits from a code bit on, and the code bit behind them.
-pub fn step_at(bank: &[u8], c: CodeBit, width: usize) -> Step
+// The number in the `width` bits from a code bit on: the function on slice and number that document 01 asks for under the bit reader.
+pub fn number_at(bank: &[u8], c: CodeBit, width: usize) -> u64
     requires { LiesInCode c.0 width (length bank.now) }
-    ensures { result ≡ step_of bank.now c width }
+    ensures { result ≡ code_field bank.now c.0 width }
 {
-    let value = field_at(bank, c.address(), width);
-    Step {
-        value,
-        at: c.behind(width),
-    }
+    field_at(bank, c.address(), width)
 }
 
 // How many of the `width` bits of a number stand before its first one bit; for 0, all of them.
@@ -44,6 +34,7 @@ fn zeros_before(v: u64, width: usize) -> usize
 
 // The first of the code bits from `from` on, and before `end`, that is 1; where none is, `end`. Up to the end of a byte they are read at once, and a
 // code's words end with a byte.
+// The loop stays: `position` over the whole bytes would leave the first, partial byte to be read, asked and counted apart, all of it twice.
 pub fn first_one(bank: &[u8], from: CodeBit, end: usize) -> CodeBit
     requires { AllLie from.0 end (length bank.now) }
     ensures { result.0 ≡ first_one bank.now from.0 end }
@@ -69,13 +60,6 @@ pub struct BitReader<'a> {
     pub at: CodeBit,
 }
 
-// A number that a bit reader took, and the reader behind its bits.
-#[derive(Drop)]
-pub struct Taken<'a> {
-    pub value: u64,
-    pub rest: BitReader<'a>,
-}
-
 impl<'a> BitReader<'a> {
     // A reader of the bank that stands at a code bit.
     pub fn new(bank: &'a [u8], at: CodeBit) -> BitReader<'a>
@@ -84,30 +68,14 @@ impl<'a> BitReader<'a> {
         BitReader { bank, at }
     }
 
-    // Takes the next `width` bits.
-    pub fn take(self, width: usize) -> Taken<'a>
-        requires { LiesInCode self.at.0 width (length self.bank.now) }
-        ensures { result ≡ taken_of self.entry width }
+    // Takes the next `width` bits of the code: the number in them. The reader goes on behind them.
+    pub fn take(&mut self, width: usize) -> u64
+        requires { LiesInCode self.old.at.0 width (length self.old.bank.now) }
+        ensures number { result ≡ code_field self.old.bank.now self.old.at.0 width }
+        ensures rest { self.new ≡ reader_of self.old.bank (behind_of self.old.at width) }
     {
-        let s = step_at(self.bank, self.at, width);
-        Taken {
-            value: s.value,
-            rest: BitReader {
-                bank: self.bank,
-                at: s.at,
-            },
-        }
-    }
-}
-
-// Takes the next `width` bits of the code: the number in them, and the code bit where the decoder goes on.
-pub fn take(bank: &[u8], at: CodeBit, width: usize) -> Step
-    requires { LiesInCode at.0 width (length bank.now) }
-    ensures { result ≡ step_of bank.now at width }
-{
-    let t = BitReader::new(bank, at).take(width);
-    Step {
-        value: t.value,
-        at: t.rest.at,
+        let number = number_at(self.bank, self.at, width);
+        self.at = self.at.behind(width);
+        number
     }
 }

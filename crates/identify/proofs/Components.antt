@@ -2,21 +2,23 @@
 use Prim.Native.Nat.{ℕ, ◌-◌, ◌≤◌, ◌<◌}
 use Prim.Native.Char.{code}
 use mathlib.Core.Path.{◌≡◌, refl, sym, ap, ◌∙◌}
-use mathlib.Core.Bool.{Bool, true, false, ◌&&◌}
+use mathlib.Core.Bool.{Bool, true, false, ◌&&◌, cond}
 use mathlib.Core.List.{List, [], ◌∷◌, map}
-use mathlib.Core.Option.{Option, none, some}
+use Rattle.std.specs.Prelude.{Option, None, Some, option_map}
+use Rattle.std.specs.Option.{is_some}
 use native.Mathlib.Omega.{arith}
 use lib.Dec.{leb, ltb, leb→le}
 use lib.ListN.{length, length-map, get_or}
 use borrow.Author.Tests.{lt-ltb, le-ltb, lt-leb, le-leb}
 use Rattle.rules.specs.Bytes.{all}
 use Rattle.rules.specs.Grammar.{plain_number}
-use Rattle.rules.specs.TextNumbers.{is_digit, digits_in}
+use Rattle.rules.specs.Answers.{kept}
+use Rattle.rules.specs.TextNumbers.{is_digit, digits_in, characters_in}
 use Rattle.rules.proofs.Tests.{both}
 use Rattle.digits.proofs.Runs.{digits_some, digits_none}
-use Rattle.alphabet.specs.Strings.{count_of}
-use Rattle.identities.specs.declared.Component.TheVariants.{Padded, PaddedOrEmpty, UpTo, Number, PartReference}
-use Rattle.identities.specs.Numbers.{holds, some_of, parts_only, is}
+use Rattle.alphabet.specs.Strings.{string_part}
+use Rattle.identities.specs.declared.Component.TheVariants.{Padded, PaddedOrEmpty, UpTo, Number, Characters}
+use Rattle.identities.specs.Numbers.{holds, some_of, is}
 
 -- the digits of a text of bytes
 abbrev values : List ℕ → List ℕ
@@ -42,9 +44,6 @@ values_length : (x : List ℕ) → length (values x) ≡ length x
 values_length x = length-map x (◌- code "0")
 
 module _ (x : List ℕ) where
-  pub padded_empty : length x ≡ 0 → false ≡ is Padded x
-  padded_empty e = sym (by_digits some_of x ∙ fails (all is_digit x) (some_of (values x)) (le-ltb 0 (length (values x)) (omega (arith, values_length x))))
-
   pub padded_some : ¬ (length x ≡ 0) → all is_digit x ≡ is Padded x
   padded_some n = sym (by_digits some_of x ∙ stays (all is_digit x) (some_of (values x)) (lt-ltb 0 (length (values x)) (omega (arith, values_length x))))
 
@@ -87,13 +86,13 @@ no_leading_zero (a ∷ b ∷ t) l n = sym (by_digits plain_number (a ∷ b ∷ t
         lt-ltb 0 (a - code "0") (omega (arith, leb→le (code "0") a m))
 
 -- characters
-pub some_characters : (o : Option (List ℕ)) → ltb 0 (count_of o) ≡ holds some_of o
-some_characters none = refl
-some_characters (some cs) = refl
+pub some_characters : (x : List ℕ) → is_some (option_map length (string_part x)) ≡ is Characters x
+some_characters x = go (characters_in x)
+  where
+    found : (cs : List ℕ) (b : Bool) → is_some (option_map length (cond b (Some cs) None)) ≡ b
+    found cs true = refl
+    found cs false = refl
 
--- a part reference
-pub no_part : (x : List ℕ) → length x ≡ 0 → false ≡ is PartReference x
-no_part x e = sym (fails (parts_only x) (some_of x) (le-ltb 0 (length x) (omega arith)))
-
-pub part_there : (x : List ℕ) → ¬ (length x ≡ 0) → parts_only x ≡ is PartReference x
-part_there x n = sym (stays (parts_only x) (some_of x) (lt-ltb 0 (length x) (omega arith)))
+    go : (o : Option (List ℕ)) → is_some (option_map length (kept some_of o)) ≡ holds some_of o
+    go None = refl
+    go (Some cs) = found cs (some_of cs)

@@ -1,39 +1,24 @@
 -- A text cut at its dots: what stands before the first one, what stands behind it, and the components that these are.
-use Prim.Native.Nat.{ℕ, suc, ◌+◌, ◌-◌, ◌≤◌, ◌<◌}
+use Prim.Native.Nat.{ℕ, suc, ◌+◌, ◌-◌, ◌≤◌}
 use mathlib.Core.Path.{◌≡◌, refl, sym, ap, ◌∙◌}
 use mathlib.Core.Bool.{Bool, true, false, ◌&&◌, ◌||◌, cond}
 use mathlib.Core.List.{List, [], ◌∷◌, ◌++◌, append_assoc}
-use mathlib.Core.Option.{Option, none, some}
+use Rattle.std.specs.Prelude.{Option, None, Some, nat_lt, ◌==◌, position}
+use Rattle.std.proofs.lemmas.List.Recursion.{is_position_or_len}
 use native.Mathlib.Omega.{arith}
 use lib.Dec.{eqb}
-use lib.ListN.{length, take, drop, get_or, length-append, drop_of_length-le}
+use lib.ListN.{length, take, drop, length-append}
 use lib.Seq.{take_at, drop_at}
-use borrow.Author.Tests.{eq-eqb, ne_eqb}
+use borrow.Author.Tests.{lt-ltb, le-ltb}
 use Rattle.rules.specs.Answers.{kept}
 use Rattle.rules.specs.Bytes.{among, upto, behind, dot}
 use Rattle.rules.proofs.Runs.{run_is}
-use Rattle.digits.proofs.Runs.{drop_next}
 use Rattle.identities.specs.declared.Family.{Family}
 use Rattle.identities.specs.declared.Component.{Component}
 use Rattle.identities.specs.Families.{about}
 use Rattle.identities.specs.Grammar.{totals}
 use Rattle.identities.specs.Numbers.{holds, is, divided_by}
-use Rattle.identify.specs.declared.form.Before.TheVariants.{At, Wrong}
-use Rattle.identify.specs.declared.form.Total.{Total}
-use Rattle.identify.specs.declared.form.Total.TheVariants.{Of, Any}
-use Rattle.identify.specs.Words.{split_by, total_of, counts, is_divided, is_body}
-
--- The first dot, from an index on.
-module _ (x : List ℕ) (i : ℕ) where
-  pub dot_past : length x ≤ i → length (upto dot (drop i x)) ≡ 0
-  dot_past h = rw (drop_of_length-le x h)
-
-  module _ (h : i < length x) where
-    pub dot_here : get_or x i 0 ≡ dot → length (upto dot (drop i x)) ≡ 0
-    dot_here e = rw (drop_next x i h, eq-eqb dot (get_or x i 0) (sym e))
-
-    pub dot_later : ¬ (get_or x i 0 ≡ dot) → length (upto dot (drop i x)) ≡ suc (length (upto dot (drop (i + 1) x)))
-    dot_later n = rw (drop_next x i h, ne_eqb dot (get_or x i 0) (λ e. n (sym e)))
+use Rattle.identify.specs.Words.{split_by, counts, is_divided, is_body}
 
 -- Whether there is a dot.
 upto_least : (x : List ℕ) → length (upto dot x) ≤ length x
@@ -52,22 +37,40 @@ undotted_length [] e = refl
 undotted_length (y ∷ ys) e = go (eqb dot y) (undotted_length ys) e
   where
     go : (b : Bool) → (among dot ys ≡ false → length (upto dot ys) ≡ length ys) → (b || among dot ys) ≡ false → length (cond b [] (y ∷ upto dot ys)) ≡ suc (length ys)
-    go true ih e = let z : ◌≡◌ {A = ℕ} 0 1 = cc in absurd (omega arith)
+    go true ih e = cc
     go false ih e = ap suc (ih e)
 
-pub no_dot : (x : List ℕ) → length (upto dot x) ≡ length x → among dot x ≡ false
-no_dot x h = go (among dot x) refl
+dot_within : (x : List ℕ) → nat_lt (length (upto dot x)) (length x) ≡ among dot x
+dot_within x = go (among dot x) refl
   where
-    go : (b : Bool) → among dot x ≡ b → b ≡ false
-    go true e = absurd (omega (arith, dotted_length x e))
-    go false e = refl
+    go : (b : Bool) → among dot x ≡ b → nat_lt (length (upto dot x)) (length x) ≡ b
+    go true e = lt-ltb (length (upto dot x)) (length x) (omega (arith, dotted_length x e))
+    go false e = le-ltb (length (upto dot x)) (length x) (omega (arith, undotted_length x e))
 
-pub a_dot : (x : List ℕ) → ¬ (length (upto dot x) ≡ length x) → among dot x ≡ true
-a_dot x n = go (among dot x) refl
+-- the first dot is behind the bytes before it
+pub first_dot : (x : List ℕ) → position (dot ==◌) x ≡ cond (among dot x) (Some (length (upto dot x))) None
+first_dot x = rw (← is_position_or_len (λ u. length (upto dot u)) (dot ==◌) refl more x) (ap (λ b. cond b (Some (length (upto dot x))) None) (dot_within x))
   where
-    go : (b : Bool) → among dot x ≡ b → b ≡ true
-    go true e = refl
-    go false e = absurd (n (undotted_length x e))
+    more : (y : ℕ) (u : List ℕ) → length (upto dot (y ∷ u)) ≡ cond (dot == y) 0 (1 + length (upto dot u))
+    more y u = go (dot == y)
+      where
+        go : (b : Bool) → length (cond b [] (y ∷ upto dot u)) ≡ cond b 0 (1 + length (upto dot u))
+        go true = refl
+        go false = omega arith
+
+pub a_dot : (x : List ℕ) (n : ℕ) → position (dot ==◌) x ≡ Some n → (among dot x ≡ true) × (n ≡ length (upto dot x))
+a_dot x n e = go (among dot x) (sym (first_dot x) ∙ e)
+  where
+    go : (b : Bool) → cond b (Some (length (upto dot x))) None ≡ Some n → (b ≡ true) × (n ≡ length (upto dot x))
+    go true e = (refl, cc)
+    go false e = cc
+
+pub no_dot : (x : List ℕ) → position (dot ==◌) x ≡ None → among dot x ≡ false
+no_dot x e = go (among dot x) (sym (first_dot x) ∙ e)
+  where
+    go : (b : Bool) → cond b (Some (length (upto dot x))) None ≡ None → b ≡ false
+    go true e = cc
+    go false e = refl
 
 -- the bytes before the dot
 pub the_run : (x : List ℕ) → among dot x ≡ true → take (length (upto dot x)) x ≡ upto dot x
@@ -84,12 +87,12 @@ pub record Cut (c : Component) (x : List ℕ) (n : ℕ) : Type 0 where
   pub rest : drop (n + 1) x ≡ behind dot x
   pub sizes : length x ≡ n + length (behind dot x) + 1
 
-pub cut_is : (c : Component) (x : List ℕ) (n : ℕ) → At n ≡ split_by c x → Cut c x n
+pub cut_is : (c : Component) (x : List ℕ) (n : ℕ) → Some n ≡ split_by c x → Cut c x n
 cut_is c x n e = go (among dot x) refl (is c (upto dot x)) refl e
   where
-    go : (a : Bool) → among dot x ≡ a → (b : Bool) → is c (upto dot x) ≡ b → At n ≡ cond (a && b) (At (length (upto dot x))) Wrong → Cut c x n
-    go false f b g e = let z : ◌≡◌ {A = ℕ} 0 1 = cc in absurd (omega arith)
-    go true f false g e = let z : ◌≡◌ {A = ℕ} 0 1 = cc in absurd (omega arith)
+    go : (a : Bool) → among dot x ≡ a → (b : Bool) → is c (upto dot x) ≡ b → Some n ≡ cond (a && b) (Some (length (upto dot x))) None → Cut c x n
+    go false f b g e = cc
+    go true f false g e = cc
     go true f true g e =
         let k : n ≡ length (upto dot x) = cc in
         let u = upto dot x in
@@ -102,21 +105,21 @@ cut_is c x n e = go (among dot x) refl (is c (upto dot x)) refl e
           sizes = omega (arith, k, dotted_length x f);
         }
 
-pub not_cut : (c : Component) (x : List ℕ) → Wrong ≡ split_by c x → (among dot x && is c (upto dot x)) ≡ false
+pub not_cut : (c : Component) (x : List ℕ) → None ≡ split_by c x → (among dot x && is c (upto dot x)) ≡ false
 not_cut c x e = go (among dot x && is c (upto dot x)) e
   where
-    go : (b : Bool) → Wrong ≡ cond b (At (length (upto dot x))) Wrong → b ≡ false
-    go true e = let z : ◌≡◌ {A = ℕ} 0 1 = cc in absurd (omega arith)
+    go : (b : Bool) → None ≡ cond b (Some (length (upto dot x))) None → b ≡ false
+    go true e = cc
     go false e = refl
 
 -- The total.
-counted : (t : Total) (p r : List ℕ) (ps : List (List ℕ)) (n : ℕ) → n ≡ length p + length r → counts t n ≡ totals (total_of t) (p ∷ r ∷ ps)
-counted (Of m) p r ps n e = rw e
-counted Any p r ps n e = refl
+counted : (t : Option ℕ) (p r : List ℕ) (ps : List (List ℕ)) (n : ℕ) → n ≡ length p + length r → counts t n ≡ totals t (p ∷ r ∷ ps)
+counted None p r ps n e = refl
+counted (Some m) p r ps n e = rw e
 
 -- Two components, and three.
-module _ (t : Total) (a b : Component) (x : List ℕ) where
-  pub first_wrong : (cs : List Component) → Wrong ≡ split_by a x → false ≡ is_divided t (a ∷ b ∷ cs) x
+module _ (t : Option ℕ) (a b : Component) (x : List ℕ) where
+  pub first_wrong : (cs : List Component) → None ≡ split_by a x → false ≡ is_divided t (a ∷ b ∷ cs) x
   first_wrong cs e = rw (not_cut a x e)
 
   module _ (n : ℕ) (k : Cut a x n) where
@@ -127,7 +130,7 @@ module _ (t : Total) (a b : Component) (x : List ℕ) where
     pair_right e m s = rw (k.dotted, k.right, e) (counted t (upto dot x) (behind dot x) [] m (omega (arith, s, k.sizes, k.place)))
 
     module _ (c : Component) where
-      pub second_wrong : Wrong ≡ split_by b (behind dot x) → false ≡ is_divided t (a ∷ b ∷ c ∷ []) x
+      pub second_wrong : None ≡ split_by b (behind dot x) → false ≡ is_divided t (a ∷ b ∷ c ∷ []) x
       second_wrong e = rw (k.dotted, k.right, not_cut b (behind dot x) e)
 
       module _ (m : ℕ) (j : Cut b (behind dot x) m) where
@@ -140,12 +143,12 @@ module _ (t : Total) (a b : Component) (x : List ℕ) where
 
 -- A family's components.
 kept_holds : {X : Type 0} (test : X → Bool) (o : Option X) → holds test o ≡ holds (λ _. true) (kept test o)
-kept_holds test none = refl
-kept_holds test (some x) = go (test x)
+kept_holds test None = refl
+kept_holds test (Some x) = go (test x)
   where
-    go : (b : Bool) → b ≡ holds (λ _. true) (cond b (some x) none)
+    go : (b : Bool) → b ≡ holds (λ _. true) (cond b (Some x) None)
     go true = refl
     go false = refl
 
-pub body_divided : (f : Family) (t : Total) (cs : List Component) (x : List ℕ) → cs ≡ (about f).components → total_of t ≡ (about f).total → is_divided t cs x ≡ is_body f x
+pub body_divided : (f : Family) (t : Option ℕ) (cs : List Component) (x : List ℕ) → cs ≡ (about f).components → t ≡ (about f).total → is_divided t cs x ≡ is_body f x
 body_divided f t cs x e k = rw (e, k) (kept_holds (totals (about f).total) (divided_by (about f).components x))

@@ -4,8 +4,7 @@ use mathlib.Core.Path.{◌≡◌, refl}
 use mathlib.Core.List.{List}
 use native.Mathlib.Omega.{arith}
 use lib.ListN.{length}
-use Rattle.codec.specs.Answers.{answered}
-use Rattle.codec.specs.declared.Answer.{Answer}
+use Rattle.codec.specs.Answers.{Answer, answered}
 use Rattle.codec.proofs.OneAnswer.{text_full, Full, one_answer}
 use Rattle.identities.specs.Grammar.{Identity, start, identity_text}
 use Rattle.identities.specs.Calls.{tag_to_identity, identity_to_tag}

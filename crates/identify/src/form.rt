@@ -1,7 +1,7 @@
 // Whether the text behind a family's name is of the grammar of 001, section 6.3 (document 02, C-16: number 23). Each function looks at a whole
 // text: the parts are cut out of it.
-ghost use Rattle.std.specs.Prelude.{◌≡◌, [], ◌∷◌, ◌<◌, length, drop};
-ghost use Rattle.rules.specs.Bytes.{among, upto, dot};
+ghost use Rattle.std.specs.Prelude.{◌≡◌, [], ◌∷◌, position, ◌==◌};
+ghost use Rattle.rules.specs.Bytes.{among, dot};
 ghost use Rattle.identities.specs.Grammar.{part_characters};
 ghost use Rattle.identities.specs.declared.Component.TheVariants.{Padded, PaddedOrEmpty, UpTo, Number, Characters, PartReference};
 ghost use Rattle.identities.specs.Numbers.{parts_only};
@@ -12,26 +12,21 @@ use digits::all_digits;
 use identities::{Component, Family};
 
 // One or more digits.
+#[tactic(auto, using(crate::proofs::Components::padded_some))]
 fn is_padded(x: &[u8]) -> bool
     ensures { result ≡ is_of Padded x.now }
 {
-    if x.len() == 0 {
-        return false;
-    }
-    all_digits(x, 0)
+    !x.is_empty() && all_digits(x)
 }
 
 // One to n digits.
 fn is_up_to(x: &[u8], n: usize) -> bool
     ensures { result ≡ is_of (UpTo n) x.now }
 {
-    if n < x.len() {
-        return false;
-    }
-    is_padded(x)
+    x.len() <= n && is_padded(x)
 }
 
-// `0`, or digits with no leading zero.
+// `0`, or digits with no leading zero. The test stands alone, since `leading_zero_of_a_number` (must-fail) changes it.
 fn is_number(x: &[u8]) -> bool
     ensures { result ≡ is_of Number x.now }
 {
@@ -41,56 +36,50 @@ fn is_number(x: &[u8]) -> bool
     if x[0] == b'0' {
         return false;
     }
-    all_digits(x, 0)
+    all_digits(x)
 }
 
 // One or more characters, each as itself or as one of our escapes.
+#[tactic(auto, using(crate::proofs::Components::some_characters))]
 fn is_characters(x: &[u8]) -> bool
     ensures { result ≡ is_of Characters x.now }
 {
-    0 < alphabet::characters_in(x, 0)
+    alphabet::characters_in(x).is_some()
 }
 
 // Whether a byte is a character of a part reference that stands for itself: a digit, a capital letter, or a dash.
+#[tactic(auto, using(crate::proofs::PartTexts::part_ranges))]
 fn is_part_character(c: u8) -> bool
     ensures { result ≡ among c part_characters }
 {
-    if digits::is_digit(c) {
-        return true;
-    }
-    if c == b'-' {
-        return true;
-    }
-    b'A' <= c && c <= b'Z'
+    matches!(c, b'0'..=b'9' | b'A'..=b'Z' | b'-')
 }
 
-// How many bytes the character of a part reference at index `at` takes: one, or three for the escapes of `/` and `#`; 0 where none begins there.
-fn width(x: &[u8], at: usize) -> usize
-    requires { at < length x.now }
-    ensures { result ≡ width_in (drop at x.now) }
+// How many bytes the character of a part reference takes that a text begins with: one, or three for the escapes of `/` and `#`.
+fn width(x: &[u8]) -> Option<usize>
+    ensures { result ≡ width_in x.now }
 {
-    if is_part_character(x[at]) {
-        return 1;
+    if is_part_character(*x.first()?) {
+        return Some(1);
     }
-    if digits::begins(&x[at..], b"%2F") {
-        return 3;
+    if digits::begins(x, b"%2F") {
+        return Some(3);
     }
-    if digits::begins(&x[at..], b"%23") {
-        return 3;
+    if digits::begins(x, b"%23") {
+        return Some(3);
     }
-    0
+    None
 }
 
-// Whether a text has nothing but characters of a part reference and these escapes.
+// Whether a text has nothing but characters of a part reference and these escapes. The step is one byte or three, so it is no `for`.
 fn parts_only(x: &[u8]) -> bool
     ensures { result ≡ parts_only x.now }
 {
     let mut i = 0;
     while i < x.len() {
-        let w = width(x, i);
-        if w == 0 {
+        let Some(w) = width(&x[i..]) else {
             return false;
-        }
+        };
         i += w;
     }
     true
@@ -100,10 +89,7 @@ fn parts_only(x: &[u8]) -> bool
 fn is_part_reference(x: &[u8]) -> bool
     ensures { result ≡ is_of PartReference x.now }
 {
-    if x.len() == 0 {
-        return false;
-    }
-    parts_only(x)
+    !x.is_empty() && parts_only(x)
 }
 
 // Whether a text is such a component.
@@ -112,7 +98,7 @@ pub fn is(x: &[u8], c: Component) -> bool
 {
     match c {
         Component::Padded => is_padded(x),
-        Component::PaddedOrEmpty => all_digits(x, 0),
+        Component::PaddedOrEmpty => all_digits(x),
         Component::UpTo(n) => is_up_to(x, n),
         Component::Number => is_number(x),
         Component::Characters => is_characters(x),
@@ -120,81 +106,54 @@ pub fn is(x: &[u8], c: Component) -> bool
     }
 }
 
-// The index of the first dot; the text's length where there is none.
-fn dot_in(x: &[u8]) -> usize
-    ensures { result ≡ length (upto dot x.now) }
+// The index of the first dot.
+fn dot_in(x: &[u8]) -> Option<usize>
+    ensures { result ≡ position (dot ==◌) x.now }
 {
-    let mut i = 0;
-    while i < x.len() {
-        if x[i] == b'.' {
-            break;
-        }
-        i += 1;
-    }
-    i
+    x.iter().position(|c| *c == b'.')
 }
 
-// A component that stands before a dot: the index of that dot.
-#[derive(Drop)]
-pub enum Before {
-    At(usize),
-    Wrong,
-}
-
-// Zero or more digits before a dot.
-pub fn digits_before(x: &[u8]) -> Before
+// Zero or more digits before a dot: the index of that dot.
+pub fn digits_before(x: &[u8]) -> Option<usize>
     ensures { result ≡ split_by PaddedOrEmpty x.now }
 {
-    let mut i = 0;
-    while i < x.len() {
-        let c = x[i];
-        if c == b'.' {
-            return Before::At(i);
+    for (i, c) in x.iter().enumerate() {
+        if *c == b'.' {
+            return Some(i);
         }
-        if !digits::is_digit(c) {
-            break;
+        if !digits::is_digit(*c) {
+            return None;
         }
-        i += 1;
     }
-    Before::Wrong
+    None
 }
 
-// Any component before a dot.
-fn split(x: &[u8], c: Component) -> Before
+// Any component before a dot: the index of that dot.
+fn split(x: &[u8], c: Component) -> Option<usize>
     ensures { result ≡ split_by c x.now }
 {
-    let n = dot_in(x);
-    if n == x.len() {
-        return Before::Wrong;
-    }
+    let n = dot_in(x)?;
     if is(&x[..n], c) {
-        return Before::At(n);
+        return Some(n);
     }
-    Before::Wrong
+    None
 }
 
-// The digits that the first two parts must have together.
-#[derive(Drop)]
-pub enum Total {
-    Of(usize),
-    Any,
-}
-
-// Whether so many digits are right.
-fn is_total(total: Total, n: usize) -> bool
+// Whether so many digits are right for the first two parts together.
+fn is_total(total: Option<usize>, n: usize) -> bool
     ensures { result ≡ counts total n }
 {
     match total {
-        Total::Of(m) => n == m,
-        Total::Any => true,
+        Some(m) => n == m,
+        None => true,
     }
 }
 
 // Two components with a dot between them.
-fn is_pair(x: &[u8], a: Component, b: Component, total: Total) -> bool
+fn is_pair(x: &[u8], a: Component, b: Component, total: Option<usize>) -> bool
     ensures { result ≡ is_divided total (a ∷ b ∷ []) x.now }
 {
-    let Before::At(n) = split(x, a) else {
+    let Some(n) = split(x, a) else {
         return false;
     };
     let behind = n + 1;
@@ -205,14 +164,14 @@ fn is_pair(x: &[u8], a: Component, b: Component, total: Total) -> bool
 }
 
 // Three components with dots between them.
-fn is_triple(x: &[u8], a: Component, b: Component, c: Component, total: Total) -> bool
+fn is_triple(x: &[u8], a: Component, b: Component, c: Component, total: Option<usize>) -> bool
     ensures { result ≡ is_divided total (a ∷ b ∷ c ∷ []) x.now }
 {
-    let Before::At(n) = split(x, a) else {
+    let Some(n) = split(x, a) else {
         return false;
     };
     let second = n + 1;
-    let Before::At(m) = split(&x[second..], b) else {
+    let Some(m) = split(&x[second..], b) else {
         return false;
     };
     let third = second + m + 1;
@@ -222,11 +181,11 @@ fn is_triple(x: &[u8], a: Component, b: Component, c: Component, total: Total) -
     is_total(total, n + m)
 }
 
-// A family's components, and the digits of the first two together.
+// A family's components, and the digits that the first two have together, where they are counted.
 #[derive(Drop)]
 pub enum Shape {
-    Two(Component, Component, Total),
-    Three(Component, Component, Component, Total),
+    Two(Component, Component, Option<usize>),
+    Three(Component, Component, Component, Option<usize>),
 }
 
 pub fn about(f: Family) -> Shape
@@ -237,47 +196,47 @@ pub fn about(f: Family) -> Shape
             Component::Padded,
             Component::Padded,
             Component::Characters,
-            Total::Of(13),
+            Some(13),
         ),
-        Family::Sscc => Shape::Two(Component::Padded, Component::Padded, Total::Of(17)),
+        Family::Sscc => Shape::Two(Component::Padded, Component::Padded, Some(17)),
         Family::Sgln => Shape::Three(
             Component::Padded,
             Component::PaddedOrEmpty,
             Component::Characters,
-            Total::Of(12),
+            Some(12),
         ),
         Family::Grai => Shape::Three(
             Component::Padded,
             Component::PaddedOrEmpty,
             Component::Characters,
-            Total::Of(12),
+            Some(12),
         ),
-        Family::Giai => Shape::Two(Component::Padded, Component::Characters, Total::Any),
-        Family::Gsrn => Shape::Two(Component::Padded, Component::Padded, Total::Of(17)),
-        Family::Gsrnp => Shape::Two(Component::Padded, Component::Padded, Total::Of(17)),
+        Family::Giai => Shape::Two(Component::Padded, Component::Characters, None),
+        Family::Gsrn => Shape::Two(Component::Padded, Component::Padded, Some(17)),
+        Family::Gsrnp => Shape::Two(Component::Padded, Component::Padded, Some(17)),
         Family::Gdti => Shape::Three(
             Component::Padded,
             Component::PaddedOrEmpty,
             Component::Characters,
-            Total::Of(12),
+            Some(12),
         ),
         Family::Gid => Shape::Three(
             Component::Number,
             Component::Number,
             Component::Number,
-            Total::Any,
+            None,
         ),
         Family::Sgcn => Shape::Three(
             Component::Padded,
             Component::PaddedOrEmpty,
             Component::UpTo(12),
-            Total::Of(12),
+            Some(12),
         ),
         Family::Cpi => Shape::Three(
             Component::Padded,
             Component::PartReference,
             Component::Number,
-            Total::Any,
+            None,
         ),
     }
 }

@@ -6,6 +6,7 @@
 mod counted;
 mod direct;
 mod families;
+mod fits;
 mod form;
 mod judge;
 mod tags;
@@ -17,29 +18,23 @@ ghost use Rattle.codec.specs.Answers.{answered};
 ghost use Rattle.identities.specs.Calls.{tag_to_identity, identity_to_tag};
 ghost use Rattle.identify.specs.Words.{of_family, start_of};
 
-use codec::{Answer, TEXT_ROOM};
-use counted::Verdict;
-use digits::put_bytes;
-use direct::{Way, direct};
-use families::Named;
+use codec::{Answer, TEXT_ROOM, Written};
+use counted::Fault;
+use digits::Output;
+use direct::direct;
 use identities::Family;
 use rules::Scheme;
-use scheme::refusal::OUTPUT_TOO_SHORT;
+use scheme::refusal::Rule;
 
-// The numbers of an identity, by name (document 02, C-16).
-pub const NOT_AN_IDENTITY: u8 = 23;
-
-pub const FILTER_TOO_LARGE: u8 = 24;
-
-pub const NO_SCHEME: u8 = 25;
-
-// Writes the identity whose parts stand in a tag text from index `at` on, and returns its length.
-fn put_identity(out: &mut [u8], text: &[u8], at: usize, s: Scheme) -> usize
-    requires { (at ≤ length text.now) × (length text.now ≤ 116) × (text_room ≤ length out.old) }
-    ensures { Puts (start_of s ++ drop at text.now) 0 out.old result out.new }
+// Writes the identity of a scheme's tag whose text has these parts behind its filter, and returns its length.
+fn put_identity(out: &mut [u8], parts: &[u8], s: Scheme) -> usize
+    requires { (length parts.now ≤ 116) × (text_room ≤ length out.old) }
+    ensures { Puts (start_of s ++ parts.now) 0 out.old result out.new }
 {
-    let parts = families::put_start(out, families::family_of(s));
-    put_bytes(out, parts, &text[at..])
+    let mut w = Output::new(out);
+    families::put_start(&mut w, families::family_of(s));
+    w.put(parts);
+    w.at
 }
 
 // Any tag text, by its record: the numbers of the text, 2 to 8 with 20.
@@ -47,16 +42,10 @@ fn by_record(text: &[u8], out: &mut [u8]) -> Answer
     requires { text_room ≤ length out.old }
     ensures { answered result out.new ≡ tag_to_identity text.now out.old }
 {
-    let reading = text::reading::read(text);
-    let number = reading.number;
-    if number != 0 {
-        return Answer::Refused(number, reading.place);
-    }
-    let tag = reading.tag;
-    let s = tag.scheme;
-    let control = tag.control;
-    let at = tags::body_at(control, s);
-    Answer::Written(put_identity(out, text, at, s), 0)
+    let tag = text::reading::read(text)?;
+    let at = tags::body_at(tag.control, tag.scheme);
+    let length = put_identity(out, &text[at..], tag.scheme);
+    Ok(Written { length, words: 0 })
 }
 
 // A tag text to the text of its identity: number 1, then those of the text. Control fields and filter are dropped; what stands behind them is
@@ -65,12 +54,13 @@ pub fn tag_to_identity(text: &[u8], out: &mut [u8]) -> Answer
     ensures { answered result out.new ≡ tag_to_identity text.now out.old }
 {
     if out.len() < TEXT_ROOM {
-        return Answer::Refused(OUTPUT_TOO_SHORT, 0);
+        return Err(Rule::OutputTooShort.at(0));
     }
-    let Way::Direct(s, at) = direct(text) else {
+    let Some((s, at)) = direct(text) else {
         return by_record(text, out);
     };
-    Answer::Written(put_identity(out, text, at, s), 0)
+    let length = put_identity(out, &text[at..], s);
+    Ok(Written { length, words: 0 })
 }
 
 // What follows a family's name, and a filter, to a tag text: 23 by the verdict, 24, then 25 or the text.
@@ -78,21 +68,16 @@ fn of_family(body: &[u8], family: Family, filter: u32, out: &mut [u8]) -> Answer
     requires { text_room ≤ length out.old }
     ensures { answered result out.new ≡ of_family family filter body.now out.old }
 {
-    match judge::judge(body, family) {
-        Verdict::WrongText => Answer::Refused(NOT_AN_IDENTITY, 0),
-        Verdict::Unheld => {
-            if families::most_filter(family) < filter {
-                return Answer::Refused(FILTER_TOO_LARGE, 0);
-            }
-            Answer::Refused(NO_SCHEME, 0)
+    let refused = match judge::judge(body, family) {
+        Err(Fault::WrongText) => Rule::NotAnIdentity,
+        _ if families::most_filter(family) < filter => Rule::FilterTooLarge,
+        Err(Fault::Unheld) => Rule::NoScheme,
+        Ok(s) => {
+            let length = tags::put_text(out, body, s, filter);
+            return Ok(Written { length, words: 0 });
         }
-        Verdict::By(s) => {
-            if families::most_filter(family) < filter {
-                return Answer::Refused(FILTER_TOO_LARGE, 0);
-            }
-            Answer::Written(tags::put_text(out, body, s, filter), 0)
-        }
-    }
+    };
+    Err(refused.at(0))
 }
 
 // An identity and a filter to a tag text: numbers 1, 23, 24 and 25. The scheme is the 96-bit one if it holds the identity, else the long one.
@@ -100,10 +85,10 @@ pub fn identity_to_tag(text: &[u8], filter: u32, out: &mut [u8]) -> Answer
     ensures { answered result out.new ≡ identity_to_tag filter text.now out.old }
 {
     if out.len() < TEXT_ROOM {
-        return Answer::Refused(OUTPUT_TOO_SHORT, 0);
+        return Err(Rule::OutputTooShort.at(0));
     }
-    match families::family_in(text) {
-        Named::Is(family, at) => of_family(&text[at..], family, filter, out),
-        Named::Unlisted => Answer::Refused(NOT_AN_IDENTITY, 0),
-    }
+    let Some((family, at)) = families::family_in(text) else {
+        return Err(Rule::NotAnIdentity.at(0));
+    };
+    of_family(&text[at..], family, filter, out)
 }

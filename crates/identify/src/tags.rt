@@ -2,14 +2,14 @@
 ghost use Rattle.std.specs.Prelude.{◌≡◌, ◌+◌, ◌≤◌, length};
 ghost use Rattle.rules.specs.Schemes.{about as aboutOf};
 ghost use Rattle.rules.specs.ControlFields.{control_text, ControlFits};
-ghost use Rattle.rules.specs.Grammar.{label};
-ghost use Rattle.digits.specs.Pieces.{Puts};
+ghost use Rattle.digits.specs.Pieces.{Puts, Room, Adds};
 ghost use Rattle.identities.specs.Numbers.{filter_text, tag_text};
 ghost use Rattle.identify.specs.Words.{body_at};
 
-use digits::put_bytes;
+use digits::Output;
 use rules::{ControlFields, Parts, Scheme};
 use scheme::outlines::about;
+use text::writing::label;
 
 // How many characters `urn:epc:tag:` has.
 const START: usize = 12;
@@ -19,39 +19,11 @@ fn control_length(control: ControlFields) -> usize
     requires { ControlFits control }
     ensures { result ≡ length (control_text control) }
 {
-    if control.umi == 0 {
-        if control.att == 0 {
-            return 0;
-        }
-        return 10;
-    }
-    if control.att == 0 {
-        return 8;
-    }
-    17
-}
-
-// How many characters a scheme's name and the colon have.
-fn label_length(s: Scheme) -> usize
-    ensures { result ≡ length (label s) }
-{
-    match s {
-        Scheme::Sgtin96 => 9,
-        Scheme::Sgtin198 => 10,
-        Scheme::Sscc96 => 8,
-        Scheme::Sgln96 => 8,
-        Scheme::Sgln195 => 9,
-        Scheme::Grai96 => 8,
-        Scheme::Grai170 => 9,
-        Scheme::Giai96 => 8,
-        Scheme::Gsrn96 => 8,
-        Scheme::Gsrnp96 => 9,
-        Scheme::Gdti96 => 8,
-        Scheme::Gdti174 => 9,
-        Scheme::Gid96 => 7,
-        Scheme::Gdti113 => 9,
-        Scheme::Sgcn96 => 8,
-        Scheme::Cpi96 => 7,
+    match (control.umi, control.att) {
+        (0, 0) => 0,
+        (0, _) => 10,
+        (_, 0) => 8,
+        (_, _) => 17,
     }
 }
 
@@ -59,10 +31,9 @@ fn label_length(s: Scheme) -> usize
 fn filter_length(s: Scheme) -> usize
     ensures { result ≡ length (filter_text (aboutOf s).parts 0) }
 {
-    let parts = about(s).parts;
-    match parts {
+    match about(s).parts {
         Parts::F(_) => 2,
-        Parts::Integers(_, _, _) => 0,
+        Parts::Integers(..) => 0,
     }
 }
 
@@ -71,18 +42,18 @@ pub fn body_at(control: ControlFields, s: Scheme) -> usize
     requires { ControlFits control }
     ensures { result ≡ body_at control s }
 {
-    START + control_length(control) + label_length(s) + filter_length(s)
+    START + control_length(control) + label(s).len() + filter_length(s)
 }
 
-// Writes the filter and its dot from index `at` on, if the scheme has one, and returns the index after them.
-fn put_filter(out: &mut [u8], at: usize, s: Scheme, filter: u32) -> usize
-    requires { (filter ≤ 7) × (at + 2 ≤ length out.old) }
-    ensures { Puts (filter_text (aboutOf s).parts filter) at out.old result out.new }
+// The filter and its dot, if the scheme has one.
+#[tactic(auto, using(digits::proofs::Joins::nothing))]
+fn put_filter(w: &mut Output<'_>, s: Scheme, filter: u32)
+    requires { (filter ≤ 7) × Room w.old 2 }
+    ensures { Adds w.old (filter_text (aboutOf s).parts filter) w.new }
 {
-    let parts = about(s).parts;
-    match parts {
-        Parts::F(_) => put_bytes(out, at, &[b'0' + filter as u8, b'.']),
-        Parts::Integers(_, _, _) => at,
+    match about(s).parts {
+        Parts::F(_) => w.put(&[b'0' + filter as u8, b'.']),
+        Parts::Integers(..) => {}
     }
 }
 
@@ -91,8 +62,10 @@ pub fn put_text(out: &mut [u8], body: &[u8], s: Scheme, filter: u32) -> usize
     requires { (filter ≤ 7) × (24 + length body.now ≤ length out.old) }
     ensures { Puts (tag_text filter body.now s) 0 out.old result out.new }
 {
-    let name = put_bytes(out, 0, b"urn:epc:tag:");
-    let at = text::writing::put_label(out, name, s);
-    let parts = put_filter(out, at, s, filter);
-    put_bytes(out, parts, body)
+    let mut w = Output::new(out);
+    w.put(b"urn:epc:tag:");
+    w.put(label(s));
+    put_filter(&mut w, s, filter);
+    w.put(body);
+    w.at
 }

@@ -3,7 +3,7 @@ use Prim.Native.Nat.{ℕ, ◌≤◌}
 use mathlib.Core.Path.{◌≡◌, refl, sym, ◌∙◌, ap}
 use mathlib.Core.Logic.{◌⊎◌, inl, inr}
 use mathlib.Core.List.{List, ◌++◌}
-use mathlib.Core.Option.{Option, none, some}
+use Rattle.std.specs.Prelude.{Option, None, Some}
 use native.Mathlib.Omega.{arith}
 use Rattle.rules.specs.declared.Scheme.{Scheme}
 use Rattle.rules.specs.declared.Scheme.TheVariants.{Sgtin96, Sgtin198, Sscc96, Sgln96, Sgln195, Grai96, Grai170, Giai96, Gsrn96, Gsrnp96, Gdti96, Gdti174, Gid96, Gdti113, Sgcn96, Cpi96}
@@ -57,7 +57,7 @@ long_is Cpi = tt
 
 -- every scheme but gdti-113 is one of them: in 96 bits the short one, in more the long one
 abbrev Placed : Scheme → Type 0
-Placed s = ((s ≡ short (family_of s)) × (Bits s ≡ 96)) ⊎ ((long (family_of s) ≡ some s) × (¬ (Bits s ≡ 96)))
+Placed s = ((s ≡ short (family_of s)) × (Bits s ≡ 96)) ⊎ ((long (family_of s) ≡ Some s) × (¬ (Bits s ≡ 96)))
 
 placed : (s : Scheme) → ¬ (s ≡ Gdti113) → Placed s
 placed Sgtin96 h = inl (refl, refl)
@@ -90,7 +90,7 @@ family_is τ = refl
 
 module _ (f : ℕ) (t : List ℕ) (ι : Identity) (r : IdentityText t ι) (least : f ≤ most_filter ι.family) where
   -- what a scheme of the family holds has the identity, the filter and no control fields
-  has : (s : Scheme) (τ : Tag) → family_of s ≡ ι.family → ¬ (s ≡ Gdti113) → held_by f (joined ι.parts) s ≡ some τ → Holds t τ × (filter_of τ ≡ f) × Held f (joined ι.parts) s τ
+  has : (s : Scheme) (τ : Tag) → family_of s ≡ ι.family → ¬ (s ≡ Gdti113) → held_by f (joined ι.parts) s ≡ Some τ → Holds t τ × (filter_of τ ≡ f) × Held f (joined ι.parts) s τ
   unfolding identity_text
   has s τ e n k =
       let h = held_is f (joined ι.parts) s τ k in
@@ -100,47 +100,47 @@ module _ (f : ℕ) (t : List ℕ) (ι : Identity) (r : IdentityText t ι) (least
       (record { fits = h.fits; identity = r.text ∙ sym same; not_113 = λ z. n (sym h.scheme ∙ z) }, g, h)
 
   -- a tag that has the identity has it held by its scheme
-  there : (σ : Tag) → Holds t σ → (family_of σ.scheme ≡ ι.family) × ((τ : Tag) × (held_by f (joined ι.parts) σ.scheme ≡ some τ))
+  there : (σ : Tag) → Holds t σ → (family_of σ.scheme ≡ ι.family) × ((τ : Tag) × (held_by f (joined ι.parts) σ.scheme ≡ Some τ))
   there σ h =
       let e = one_identity t (identity_of σ) ι (tag_identity t σ h) r in
       let g : family_of σ.scheme ≡ ι.family = sym (family_is σ) ∙ ap (λ x. x.family) e in
       (g, rw (ap (λ x. joined x.parts) e) at (held_of σ f h.fits (rw g least)))
 
   -- where the 96-bit scheme holds nothing, no tag of it has the identity
-  not_short : held_by f (joined ι.parts) (short ι.family) ≡ none → (τ : Tag) → Holds t τ → ¬ (τ.scheme ≡ short (family_of τ.scheme))
+  not_short : held_by f (joined ι.parts) (short ι.family) ≡ None → (τ : Tag) → Holds t τ → ¬ (τ.scheme ≡ short (family_of τ.scheme))
   not_short k τ h p =
       let (q, (σ, w)) = there τ h in
-      let z : ◌≡◌ {A = Option Tag} none (some σ) = sym k ∙ ap (held_by f (joined ι.parts)) (sym (p ∙ ap short q)) ∙ w in
+      let z : ◌≡◌ {A = Option Tag} None (Some σ) = sym k ∙ ap (held_by f (joined ι.parts)) (sym (p ∙ ap short q)) ∙ w in
       let y : ◌≡◌ {A = ℕ} 0 1 = cc in
       omega arith
 
   -- a tag of the long scheme that has the identity
-  is_long : (τ : Tag) → Holds t τ → long (family_of τ.scheme) ≡ some τ.scheme → long ι.family ≡ some τ.scheme
+  is_long : (τ : Tag) → Holds t τ → long (family_of τ.scheme) ≡ Some τ.scheme → long ι.family ≡ Some τ.scheme
   is_long τ h p = ap long (sym (there τ h).0) ∙ p
 
   decides : (o : Option Tag) → held_by f (joined ι.parts) (short ι.family) ≡ o → (l : Option Scheme) → long ι.family ≡ l → Gives (LongIs ι.family) l
       → Decides (¬ ((τ : Tag) × Holds t τ)) (Given f t) (or_else o (and_then l (held_by f (joined ι.parts))))
-  decides (some τ) k l e g =
+  decides (Some τ) k l e g =
       let (same, wide) = short_is ι.family in
       let (h, fil, held) = has (short ι.family) τ same (not_113 _ (λ z. omega (arith, wide, z))) k in
       (λ none-there. none-there (τ, h), record { holds = h; filter = fil; control = held.control; shortest = λ σ i j. ap Bits held.scheme ∙ wide })
-  decides none k none e g = λ (τ, h). nothing τ h (placed τ.scheme h.not_113)
+  decides None k None e g = λ (τ, h). nothing τ h (placed τ.scheme h.not_113)
     where
       nothing : (τ : Tag) → Holds t τ → Placed τ.scheme → ⊥
       nothing τ h (inl (p, _)) = not_short k τ h p
       nothing τ h (inr (p, _)) =
-          let z : ◌≡◌ {A = Option Scheme} none (some τ.scheme) = sym e ∙ is_long τ h p in
+          let z : ◌≡◌ {A = Option Scheme} None (Some τ.scheme) = sym e ∙ is_long τ h p in
           let y : ◌≡◌ {A = ℕ} 0 1 = cc in
           omega arith
-  decides none k (some s) e g = found (held_by f (joined ι.parts) s) refl
+  decides None k (Some s) e g = found (held_by f (joined ι.parts) s) refl
     where
-      neither : held_by f (joined ι.parts) s ≡ none → (τ : Tag) → Holds t τ → Placed τ.scheme → ⊥
+      neither : held_by f (joined ι.parts) s ≡ None → (τ : Tag) → Holds t τ → Placed τ.scheme → ⊥
       neither n τ h (inl (p, _)) = not_short k τ h p
       neither n τ h (inr (p, _)) =
           let (_, (σ, w)) = there τ h in
-          let same : ◌≡◌ {A = Option Scheme} (some s) (some τ.scheme) = sym e ∙ is_long τ h p in
+          let same : ◌≡◌ {A = Option Scheme} (Some s) (Some τ.scheme) = sym e ∙ is_long τ h p in
           let is : s ≡ τ.scheme = cc in
-          let z : ◌≡◌ {A = Option Tag} none (some σ) = sym n ∙ ap (held_by f (joined ι.parts)) is ∙ w in
+          let z : ◌≡◌ {A = Option Tag} None (Some σ) = sym n ∙ ap (held_by f (joined ι.parts)) is ∙ w in
           let y : ◌≡◌ {A = ℕ} 0 1 = cc in
           omega arith
 
@@ -149,8 +149,8 @@ module _ (f : ℕ) (t : List ℕ) (ι : Identity) (r : IdentityText t ι) (least
       in_96 σ h b (inr (_, m)) = m b
 
       found : (o : Option Tag) → held_by f (joined ι.parts) s ≡ o → Decides (¬ ((τ : Tag) × Holds t τ)) (Given f t) o
-      found none n = λ (τ, h). neither n τ h (placed τ.scheme h.not_113)
-      found (some τ) n =
+      found None n = λ (τ, h). neither n τ h (placed τ.scheme h.not_113)
+      found (Some τ) n =
           let (h, fil, held) = has s τ g.0 (not_113 s g.1) n in
           (λ none-there. none-there (τ, h), record { holds = h; filter = fil; control = held.control; shortest = λ σ i j. absurd (in_96 σ i j (placed σ.scheme i.not_113)) })
 
@@ -158,21 +158,21 @@ module _ (f : ℕ) (t : List ℕ) (ι : Identity) (r : IdentityText t ι) (least
   chosen_decides = decides (held_by f (joined ι.parts) (short ι.family)) refl (long ι.family) refl (long_is ι.family)
 
 -- What is chosen behind a family's name is of the grammar, whatever was read there before: its parts are those of the tag's identity.
-pub chosen_formed : (f : ℕ) (g : Family) (x : List ℕ) (τ : Tag) → f ≤ most_filter g → chosen f g x ≡ some τ → (body_in g x ≡ some (identity_of τ).parts) × (joined (identity_of τ).parts ≡ x)
+pub chosen_formed : (f : ℕ) (g : Family) (x : List ℕ) (τ : Tag) → f ≤ most_filter g → chosen f g x ≡ Some τ → (body_in g x ≡ Some (identity_of τ).parts) × (joined (identity_of τ).parts ≡ x)
 chosen_formed f g x τ least e = go (held_by f x (short g)) refl (long g) (long_is g) e
   where
-    formed : (s : Scheme) → family_of s ≡ g → held_by f x s ≡ some τ → (body_in g x ≡ some (identity_of τ).parts) × (joined (identity_of τ).parts ≡ x)
+    formed : (s : Scheme) → family_of s ≡ g → held_by f x s ≡ Some τ → (body_in g x ≡ Some (identity_of τ).parts) × (joined (identity_of τ).parts ≡ x)
     formed s k e =
         let h = held_is f x s τ e in
         let (_, b) = held_split f x s τ (rw k least) h in
         let same : (identity_of τ).family ≡ g = family_is τ ∙ ap family_of h.scheme ∙ k in
         (ap (λ h. body_in h x) (sym same) ∙ ap (body_in (identity_of τ).family) (sym b) ∙ body_of (identity_of τ) (identity_fits τ h.fits), b)
 
-    go : (o : Option Tag) → held_by f x (short g) ≡ o → (l : Option Scheme) → Gives (LongIs g) l → or_else o (and_then l (held_by f x)) ≡ some τ
-        → (body_in g x ≡ some (identity_of τ).parts) × (joined (identity_of τ).parts ≡ x)
-    go (some σ) k l h e = formed (short g) (short_is g).0 (k ∙ e)
-    go none k none h e = let z : ◌≡◌ {A = ℕ} 0 1 = cc in absurd (omega arith)
-    go none k (some s) h e = formed s h.0 e
+    go : (o : Option Tag) → held_by f x (short g) ≡ o → (l : Option Scheme) → Gives (LongIs g) l → or_else o (and_then l (held_by f x)) ≡ Some τ
+        → (body_in g x ≡ Some (identity_of τ).parts) × (joined (identity_of τ).parts ≡ x)
+    go (Some σ) k l h e = formed (short g) (short_is g).0 (k ∙ e)
+    go None k None h e = let z : ◌≡◌ {A = ℕ} 0 1 = cc in absurd (omega arith)
+    go None k (Some s) h e = formed s h.0 e
 
 -- No second tag is given.
 one_scheme : (s s' : Scheme) → family_of s ≡ family_of s' → (Bits s ≡ 96 → Bits s' ≡ 96) → (Bits s' ≡ 96 → Bits s ≡ 96) → Placed s → Placed s' → s ≡ s'
@@ -180,7 +180,7 @@ one_scheme s s' e h k (inl (p, _)) (inl (q, _)) = p ∙ ap short e ∙ sym q
 one_scheme s s' e h k (inl (p, b)) (inr (q, m)) = absurd (m (h b))
 one_scheme s s' e h k (inr (p, m)) (inl (q, b)) = absurd (m (k b))
 one_scheme s s' e h k (inr (p, _)) (inr (q, _)) =
-    let z : ◌≡◌ {A = Option Scheme} (some s) (some s') = sym p ∙ ap long e ∙ q in
+    let z : ◌≡◌ {A = Option Scheme} (Some s) (Some s') = sym p ∙ ap long e ∙ q in
     cc
 
 pub one_given : (f : ℕ) (t : List ℕ) (τ τ' : Tag) → Given f t τ → Given f t τ' → text_of τ ≡ text_of τ'

@@ -3,7 +3,7 @@ use Prim.Native.Nat.{ℕ, ◌<◌}
 use Prim.Native.Char.{code}
 use mathlib.Core.Path.{◌≡◌}
 use mathlib.Core.List.{List, [], ◌∷◌}
-use mathlib.Core.Option.{Option, none, some}
+use Rattle.std.specs.Prelude.{Option, None, Some}
 use mathlib.Core.Bool.{Bool, true, false, ◌&&◌, ◌||◌, not, cond}
 use lib.Dec.{T, leb, eqb, leb→le, le→leb, ltb→lt, lt→ltb, eqb→eq}
 use lib.ListN.{length}
@@ -27,8 +27,8 @@ digits_passed : (test : List ℕ → Bool) (x : List ℕ) → T (holds test (dig
 digits_passed test x h = go (digits_in x) (digits_is x) h
   where
     go : (o : Option (List ℕ)) → Gives (λ ds. T (all digit ds) × (x ≡ digits_text ds)) o → T (holds test o) → (ds : List ℕ) × Decimal x ds × T (test ds)
-    go none g h = absurd h
-    go (some ds) g h = (ds, (all_digits ds g.0, g.1), h)
+    go None g h = absurd h
+    go (Some ds) g h = (ds, (all_digits ds g.0, g.1), h)
 
 digits_pass : (test : List ℕ → Bool) (x ds : List ℕ) → Decimal x ds → T (test ds) → T (holds test (digits_in x))
 digits_pass test x ds d h = rw (d.1, digits_of_lem ds (digits_all ds d.0)) h
@@ -37,8 +37,8 @@ characters_passed : (x : List ℕ) → T (holds some_of (characters_in x)) → (
 characters_passed x h = go (characters_in x) (characters_is x) h
   where
     go : (o : Option (List ℕ)) → CharactersIs x o → T (holds some_of o) → (cs : List ℕ) × Spelled x cs × (0 < length cs)
-    go none g h = absurd h
-    go (some cs) g h = (cs, g, ltb→lt 0 (length cs) h)
+    go None g h = absurd h
+    go (Some cs) g h = (cs, g, ltb→lt 0 (length cs) h)
 
 -- A part reference.
 percent_apart : T (all (λ c. not (eqb c percent)) part_characters)

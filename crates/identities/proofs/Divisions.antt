@@ -2,7 +2,7 @@
 use Prim.Native.Nat.{ℕ}
 use mathlib.Core.Path.{◌≡◌, refl, ◌∙◌, ap}
 use mathlib.Core.List.{List, [], ◌∷◌, ◌++◌}
-use mathlib.Core.Option.{Option, none, some, map}
+use Rattle.std.specs.Prelude.{Option, None, Some, option_map}
 use mathlib.Core.Bool.{Bool, true, false, ◌&&◌, cond}
 use lib.Dec.{T}
 use Rattle.rules.specs.Answers.{kept}
@@ -30,17 +30,17 @@ divided_is : (cs : List Component) (t : List ℕ) → Gives (Divided cs t) (divi
 divided_is [] t = tt
 divided_is (c ∷ []) t = go (is c t) (component_is c t)
   where
-    go : (b : Bool) → (T b → Is c t) → Gives (Divided (c ∷ []) t) (cond b (some (t ∷ [])) none)
+    go : (b : Bool) → (T b → Is c t) → Gives (Divided (c ∷ []) t) (cond b (Some (t ∷ [])) None)
     go true h = (next (h tt) none_left, refl)
     go false h = tt
 divided_is (c ∷ d ∷ cs) t = go (among dot t) (run_is dot t) (is c (upto dot t)) (component_is c (upto dot t)) (divided_by (d ∷ cs) (behind dot t)) (divided_is (d ∷ cs) (behind dot t))
   where
     go : (a : Bool) → (T a → t ≡ upto dot t ++ dot ∷ behind dot t) → (b : Bool) → (T b → Is c (upto dot t)) → (o : Option (List (List ℕ))) → Gives (Divided (d ∷ cs) (behind dot t)) o
-        → Gives (Divided (c ∷ d ∷ cs) t) (cond (a && b) (map (upto dot t ∷◌) o) none)
+        → Gives (Divided (c ∷ d ∷ cs) t) (cond (a && b) (option_map (upto dot t ∷◌) o) None)
     go false r b h o g = tt
     go true r false h o g = tt
-    go true r true h none g = tt
-    go true r true h (some ys) g = let (m, e) = before (h tt) g in (m, r tt ∙ e)
+    go true r true h None g = tt
+    go true r true h (Some ys) g = let (m, e) = before (h tt) g in (m, r tt ∙ e)
 
 -- none but the last part may hold a dot
 abbrev Separable : List Component → Type 0
@@ -48,7 +48,7 @@ Separable [] = ⊥
 Separable (c ∷ []) = Unit
 Separable (c ∷ d ∷ cs) = Dotless c × Separable (d ∷ cs)
 
-divided_of : {cs : List Component} {xs : List (List ℕ)} → Separable cs → Made cs xs → divided_by cs (joined xs) ≡ some xs
+divided_of : {cs : List Component} {xs : List (List ℕ)} → Separable cs → Made cs xs → divided_by cs (joined xs) ≡ Some xs
 divided_of s none_left = absurd s
 divided_of s (next {c = c} {x = x} i none_left) = rw (is_true (is c x) (component_of c x i))
 divided_of s (next {c = c} {x = x} i (next {x = y} {xs = ys} j m)) =
@@ -75,12 +75,12 @@ body_is f t = go (divided_by (about f).components t) (divided_is (about f).compo
   where
     go : (o : Option (List (List ℕ))) → Gives (Divided (about f).components t) o
         → Gives (λ xs. IdentityFits (record { family = f; parts = xs }) × (t ≡ joined xs)) (kept (totals (about f).total) o)
-    go none g = tt
-    go (some xs) g = counted (totals (about f).total xs) refl
+    go None g = tt
+    go (Some xs) g = counted (totals (about f).total xs) refl
       where
-        counted : (b : Bool) → totals (about f).total xs ≡ b → Gives (λ xs. IdentityFits (record { family = f; parts = xs }) × (t ≡ joined xs)) (cond b (some xs) none)
+        counted : (b : Bool) → totals (about f).total xs ≡ b → Gives (λ xs. IdentityFits (record { family = f; parts = xs }) × (t ≡ joined xs)) (cond b (Some xs) None)
         counted true e = (record { parts = g.0; total = rw e tt }, g.1)
         counted false e = tt
 
-pub body_of : (ι : Identity) → IdentityFits ι → body_in ι.family (joined ι.parts) ≡ some ι.parts
+pub body_of : (ι : Identity) → IdentityFits ι → body_in ι.family (joined ι.parts) ≡ Some ι.parts
 body_of ι h = rw (divided_of (separable ι.family) h.parts, is_true (totals (about ι.family).total ι.parts) h.total)

@@ -3,7 +3,7 @@ use Prim.Native.Nat.{ℕ, ◌≤◌}
 use mathlib.Core.Path.{◌≡◌, refl, sym, ◌∙◌, ap}
 use mathlib.Core.Logic.{◌↔◌}
 use mathlib.Core.List.{List, []}
-use mathlib.Core.Option.{Option, none, some}
+use Rattle.std.specs.Prelude.{Option, None, Some}
 use native.Mathlib.Omega.{arith}
 use lib.Dec.{leb, le→leb}
 use lib.ListN.{length, get_or}
@@ -61,8 +61,8 @@ given_taken f t τ g =
     judged f t ι r most ∙ go (chosen f ι.family (joined ι.parts)) (chosen_decides f t ι r most)
   where
     go : (o : Option Tag) → Decides (¬ ((σ : Tag) × Holds t σ)) (Given f t) o → given o 25 0 ≡ taken τ
-    go none h = absurd (h (τ, g.holds))
-    go (some σ) h =
+    go None h = absurd (h (τ, g.holds))
+    go (Some σ) h =
         let e = one_given f t σ τ h.1 g in
         ap taken (one_division (text_of τ) σ τ (record { fits = h.1.holds.fits; text = sym e }) (record { fits = g.holds.fits; text = refl }))
 
@@ -91,8 +91,8 @@ module _ (f : ℕ) (t out : List ℕ) (l : text_room ≤ length out) where
     where
       go : (o : Option Tag) → Decides (¬ ((σ : Tag) × Holds t σ)) (Given f t) o → tag_of_identity f t ≡ given o 25 0
           → ((identity_to_tag f t out).number ≡ 25) ↔ (¬ ((u : List ℕ) × (τ : Tag) × TagText u τ × (¬ (τ.scheme ≡ Gdti113)) × (t ≡ identity_text (identity_of τ))))
-      go none h e = (λ _ (u, τ, x, n, i). h (τ, record { fits = x.fits; identity = i; not_113 = n }), λ _. ap (λ c. c.number) (refuses 25 0 e))
-      go (some τ) h e = (
+      go None h e = (λ _ (u, τ, x, n, i). h (τ, record { fits = x.fits; identity = i; not_113 = n }), λ _. ap (λ c. c.number) (refuses 25 0 e))
+      go (Some τ) h e = (
         λ z. absurd (omega (arith, ap (λ c. c.number) (answers τ e))),
         λ n. let i = h.1.holds in absurd (n (text_of τ, τ, record { fits = i.fits; text = refl }, i.not_113, i.identity)),
       )

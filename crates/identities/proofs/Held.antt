@@ -5,7 +5,7 @@ use mathlib.Core.Path.{◌≡◌, refl, sym, ◌∙◌, ap}
 use mathlib.Core.Logic.Iff
 use mathlib.Core.Logic.{◌↔◌}
 use mathlib.Core.List.{List, [], ◌∷◌, ◌++◌}
-use mathlib.Core.Option.{some}
+use Rattle.std.specs.Prelude.{Some}
 use mathlib.Core.Bool.{true}
 use native.Mathlib.Omega.{arith}
 use lib.Dec.{ltb, lt→ltb, ltb→lt}
@@ -72,11 +72,11 @@ taken_held f body s τ e =
     let (n, c) = taken_as s (parts_in (length start + length (control_text no_fields) + length (label s)) (layout s) (filter_text (about s).parts f ++ body)) τ (sym (read_named s (filter_text (about s).parts f ++ body)) ∙ e) in
     record { fits = r.1.fits; scheme = n; control = c; text = r.1.text }
 
-pub if_taken_lem : {X : Type 0} (a : Answer X) (x : X) → if_taken a ≡ some x → a ≡ taken x
+pub if_taken_lem : {X : Type 0} (a : Answer X) (x : X) → if_taken a ≡ Some x → a ≡ taken x
 if_taken_lem (refused n p) x e = let z : ◌≡◌ {A = ℕ} 0 1 = cc in absurd (omega arith)
 if_taken_lem (taken y) x e = cc
 
-pub held_is : (f : ℕ) (body : List ℕ) (s : Scheme) (τ : Tag) → held_by f body s ≡ some τ → Held f body s τ
+pub held_is : (f : ℕ) (body : List ℕ) (s : Scheme) (τ : Tag) → held_by f body s ≡ Some τ → Held f body s τ
 unfolding held_by
 held_is f body s τ e = taken_held f body s τ (if_taken_lem (tag_of_text (tag_text f body s)) τ e)
 
@@ -152,7 +152,7 @@ refiltered (F body) f ps h k =
 refiltered (Integers a b c) f ps h k = record { parts = ps; fits = h; same = refl; filter = no_filter a b c ps ∙ sym k }
 
 -- What a tag has is held by its scheme, whatever the filter.
-pub held_of : (σ : Tag) (f : ℕ) → TagFits σ → f ≤ most_filter (family_of σ.scheme) → (τ : Tag) × (held_by f (joined (identity_of σ).parts) σ.scheme ≡ some τ)
+pub held_of : (σ : Tag) (f : ℕ) → TagFits σ → f ≤ most_filter (family_of σ.scheme) → (τ : Tag) × (held_by f (joined (identity_of σ).parts) σ.scheme ≡ Some τ)
 unfolding identity_of filter_of held_by
 held_of σ f h k =
     let s = σ.scheme in

@@ -3,7 +3,7 @@ use Prim.Native.Nat.{ℕ, ◌≤◌, ◌<◌}
 use mathlib.Core.Path.{◌≡◌, refl, ◌∙◌, ap}
 use mathlib.Core.Logic.{◌⊎◌, inl, inr, ⊎_elim, ◌↔◌}
 use mathlib.Core.List.{List, [], ◌∷◌}
-use mathlib.Core.Option.{Option, none, some}
+use Rattle.std.specs.Prelude.{Option, None, Some}
 use native.Mathlib.Omega.{arith}
 use lib.Dec.{T, leb, leb→le, nleb→lt, lit<}
 use Rattle.rules.specs.Answers.{given, demand, number_of, place_of}
@@ -64,8 +64,8 @@ module _ (f : ℕ) (t : List ℕ) (ι : Identity) (r : IdentityText t ι) where
 
 -- the last rule
 last_reads : {X : Type 0} (n : ℕ) (P : Type 0) (R : X → Type 0) (o : Option X) → 0 < n → Decides P R o → Reads (rule n P (◌≡ 0) ∷ []) R (given o n 0)
-last_reads n P R none z h = (inl (h, refl, refl), z)
-last_reads n P R (some x) z h = ((h.0, tt), h.1)
+last_reads n P R None z h = (inl (h, refl, refl), z)
+last_reads n P R (Some x) z h = ((h.0, tt), h.1)
 
 pub identity_reads : (f : ℕ) (t : List ℕ) → Reads (identity_rules f t) (Given f t) (tag_of_identity f t)
 unfolding identity_rules tag_of_identity

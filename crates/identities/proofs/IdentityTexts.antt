@@ -3,7 +3,7 @@ use Prim.Native.Nat.{ℕ}
 use mathlib.Core.Path.{◌≡◌, refl, ◌∙◌, ap}
 use mathlib.Core.Logic.{◌↔◌}
 use mathlib.Core.List.{List, [], ◌∷◌, ◌++◌}
-use mathlib.Core.Option.{Option, none, some, map}
+use Rattle.std.specs.Prelude.{Option, None, Some, option_map}
 use Rattle.rules.specs.TextNumbers.{after}
 use Rattle.rules.proofs.Answers.{Gives, Decides, decided}
 use Rattle.rules.proofs.Starts.{after_is, after_of}
@@ -20,11 +20,11 @@ named_is (f ∷ fs) u = go (after (label f) u) (after_is (label f) u) (named fs 
   where
     go : (o : Option (List ℕ)) → Gives (λ v. u ≡ label f ++ v) o → (q : Option Named) → Gives (λ c. u ≡ label c.family ++ c.rest) q
         → Gives (λ c. u ≡ label c.family ++ c.rest) (choose f o q)
-    go none h q i = i
-    go (some v) h q i = h
+    go None h q i = i
+    go (Some v) h q i = h
 
 -- each name and colon are the family's alone
-pub named_of : (f : Family) (v : List ℕ) → named families (label f ++ v) ≡ some (record { family = f; rest = v })
+pub named_of : (f : Family) (v : List ℕ) → named families (label f ++ v) ≡ Some (record { family = f; rest = v })
 unfolding families
 named_of Sgtin v = refl
 named_of Sscc v = refl
@@ -43,9 +43,9 @@ identified_is c = go (body_in c.family c.rest) (body_is c.family c.rest)
   where
     go : (o : Option (List (List ℕ))) → Gives (λ xs. IdentityFits (record { family = c.family; parts = xs }) × (c.rest ≡ joined xs)) o
         → Gives (λ ι. IdentityFits ι × (label c.family ++ c.rest ≡ label ι.family ++ joined ι.parts))
-        (map (λ (xs : List (List ℕ)). record { family = c.family; parts = xs }) o)
-    go none g = tt
-    go (some xs) g = (g.0, ap (label c.family ++◌) g.1)
+        (option_map (λ (xs : List (List ℕ)). record { family = c.family; parts = xs }) o)
+    go None g = tt
+    go (Some xs) g = (g.0, ap (label c.family ++◌) g.1)
 
 pub identity_is : (t : List ℕ) → Gives (IdentityText t) (identity_in t)
 unfolding identity_in identity_text
@@ -53,28 +53,28 @@ identity_is t = started (after start t) (after_is start t)
   where
     text : (u : List ℕ) (c : Named) → t ≡ start ++ u → u ≡ label c.family ++ c.rest → (o : Option Identity)
         → Gives (λ ι. IdentityFits ι × (label c.family ++ c.rest ≡ label ι.family ++ joined ι.parts)) o → Gives (IdentityText t) o
-    text u c e r none g = tt
-    text u c e r (some ι) g = record { fits = g.0; text = e ∙ ap (start ++◌) (r ∙ g.1) }
+    text u c e r None g = tt
+    text u c e r (Some ι) g = record { fits = g.0; text = e ∙ ap (start ++◌) (r ∙ g.1) }
 
     begun : (u : List ℕ) → t ≡ start ++ u → (o : Option Named) → Gives (λ c. u ≡ label c.family ++ c.rest) o → Gives (IdentityText t) (and_then o identified)
-    begun u e none r = tt
-    begun u e (some c) r = text u c e r (identified c) (identified_is c)
+    begun u e None r = tt
+    begun u e (Some c) r = text u c e r (identified c) (identified_is c)
 
     started : (o : Option (List ℕ)) → Gives (λ u. t ≡ start ++ u) o → Gives (IdentityText t) (and_then o λ u. and_then (named families u) identified)
-    started none e = tt
-    started (some u) e = begun u e (named families u) (named_is families u)
+    started None e = tt
+    started (Some u) e = begun u e (named families u) (named_is families u)
 
 -- what a text of a family is read as
 pub identity_named : (f : Family) (v : List ℕ) → identity_in (start ++ (label f ++ v)) ≡ identified (record { family = f; rest = v })
 unfolding identity_in
 identity_named f v = rw (after_of start (label f ++ v), named_of f v)
 
-pub identity_of_lem : (t : List ℕ) (ι : Identity) → IdentityText t ι → identity_in t ≡ some ι
+pub identity_of_lem : (t : List ℕ) (ι : Identity) → IdentityText t ι → identity_in t ≡ Some ι
 unfolding identity_text
 identity_of_lem t ι r = ap identity_in r.text ∙ identity_named ι.family (joined ι.parts) ∙ rw (body_of ι r.fits)
 
 -- the texts taken are those of the grammar, each as the identity that it is the text of
-pub identities : (t : List ℕ) (ι : Identity) → (identity_in t ≡ some ι) ↔ IdentityText t ι
+pub identities : (t : List ℕ) (ι : Identity) → (identity_in t ≡ Some ι) ↔ IdentityText t ι
 identities t ι = (λ e. rw e at (identity_is t), identity_of_lem t ι)
 
 -- each divides in one way

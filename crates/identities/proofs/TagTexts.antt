@@ -4,7 +4,7 @@ use Prim.Native.Char.{code}
 use mathlib.Core.Path.{◌≡◌, refl, ap}
 use mathlib.Core.List.{List, [], ◌∷◌, ◌++◌}
 use mathlib.Core.Bool.{Bool, true, ◌&&◌}
-use mathlib.Core.Option.{some}
+use Rattle.std.specs.Prelude.{Some}
 use native.Mathlib.Omega.{arith}
 use lib.Dec.{T, leb, leb→le, ltb→lt, eqb→eq, lit<}
 use lib.ListN.{length, length-map}
@@ -180,7 +180,7 @@ Lasts f c = (p : List ℕ) → Fit f p → Is c (spelled f p)
 abbrev Identified : Family → Parts → Type 0
 Identified f q = (ps : List (List ℕ)) → Fits (laid q) ps → IdentityFits (record { family = f; parts = as_written (laid q) ps })
 
-module _ (f : Family) (t : Table) (N : ℕ) (is_exact : exact t ≡ true) (sums : Sums t N) (count : (about f).total ≡ some N) where
+module _ (f : Family) (t : Table) (N : ℕ) (is_exact : exact t ≡ true) (sums : Sums t N) (count : (about f).total ≡ Some N) where
   with_last_lem : (l : Last) {c d : Component} → (about f).components ≡ Padded ∷ c ∷ d ∷ [] → References N c → Lasts (last_form l) d → Identified f (F (Then t l))
   with_last_lem l parts reference last ps h =
       let v = partitioned (Then t l) h in

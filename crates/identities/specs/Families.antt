@@ -1,7 +1,7 @@
 -- The families' table (001, section 6.3; document 02, C-16).
 use Rattle.std.specs.Prelude.{ℕ, List, [], ◌∷◌}
 use Prim.Native.String.{String as Quoted}
-use Rattle.std.proofs.Math.Option.{Option, none, some}
+use Rattle.std.specs.Prelude.{Option, None, Some}
 use Rattle.rules.specs.declared.Scheme.{Scheme}
 use Rattle.rules.specs.declared.Scheme.TheVariants.{Sgtin96, Sgtin198, Sscc96, Sgln96, Sgln195, Grai96, Grai170, Giai96, Gsrn96, Gsrnp96, Gdti96, Gdti174, Gid96, Gdti113, Sgcn96, Cpi96}
 use Rattle.identities.specs.declared.Family.{Family}
@@ -19,17 +19,17 @@ abbrev pub line : Quoted → List Component → Option ℕ → Line
 line n cs t = record { name = n; components = cs; total = t }
 
 abbrev pub about : Family → Line
-about Sgtin = line "sgtin" (Padded ∷ Padded ∷ Characters ∷ []) (some 13)
-about Sscc = line "sscc" (Padded ∷ Padded ∷ []) (some 17)
-about Sgln = line "sgln" (Padded ∷ PaddedOrEmpty ∷ Characters ∷ []) (some 12)
-about Grai = line "grai" (Padded ∷ PaddedOrEmpty ∷ Characters ∷ []) (some 12)
-about Giai = line "giai" (Padded ∷ Characters ∷ []) none
-about Gsrn = line "gsrn" (Padded ∷ Padded ∷ []) (some 17)
-about Gsrnp = line "gsrnp" (Padded ∷ Padded ∷ []) (some 17)
-about Gdti = line "gdti" (Padded ∷ PaddedOrEmpty ∷ Characters ∷ []) (some 12)
-about Gid = line "gid" (Number ∷ Number ∷ Number ∷ []) none
-about Sgcn = line "sgcn" (Padded ∷ PaddedOrEmpty ∷ UpTo 12 ∷ []) (some 12)
-about Cpi = line "cpi" (Padded ∷ PartReference ∷ Number ∷ []) none
+about Sgtin = line "sgtin" (Padded ∷ Padded ∷ Characters ∷ []) (Some 13)
+about Sscc = line "sscc" (Padded ∷ Padded ∷ []) (Some 17)
+about Sgln = line "sgln" (Padded ∷ PaddedOrEmpty ∷ Characters ∷ []) (Some 12)
+about Grai = line "grai" (Padded ∷ PaddedOrEmpty ∷ Characters ∷ []) (Some 12)
+about Giai = line "giai" (Padded ∷ Characters ∷ []) None
+about Gsrn = line "gsrn" (Padded ∷ Padded ∷ []) (Some 17)
+about Gsrnp = line "gsrnp" (Padded ∷ Padded ∷ []) (Some 17)
+about Gdti = line "gdti" (Padded ∷ PaddedOrEmpty ∷ Characters ∷ []) (Some 12)
+about Gid = line "gid" (Number ∷ Number ∷ Number ∷ []) None
+about Sgcn = line "sgcn" (Padded ∷ PaddedOrEmpty ∷ UpTo 12 ∷ []) (Some 12)
+about Cpi = line "cpi" (Padded ∷ PartReference ∷ Number ∷ []) None
 
 unfoldable pub families : List Family
 families = Sgtin ∷ Sscc ∷ Sgln ∷ Grai ∷ Giai ∷ Gsrn ∷ Gsrnp ∷ Gdti ∷ Gid ∷ Sgcn ∷ Cpi ∷ []
@@ -68,17 +68,17 @@ short Sgcn = Sgcn96
 short Cpi = Cpi96
 
 abbrev pub long : Family → Option Scheme
-long Sgtin = some Sgtin198
-long Sscc = none
-long Sgln = some Sgln195
-long Grai = some Grai170
-long Giai = none
-long Gsrn = none
-long Gsrnp = none
-long Gdti = some Gdti174
-long Gid = none
-long Sgcn = none
-long Cpi = none
+long Sgtin = Some Sgtin198
+long Sscc = None
+long Sgln = Some Sgln195
+long Grai = Some Grai170
+long Giai = None
+long Gsrn = None
+long Gsrnp = None
+long Gdti = Some Gdti174
+long Gid = None
+long Sgcn = None
+long Cpi = None
 
 -- the largest filter: 7, and 0 for gid, whose tags have none
 abbrev pub most_filter : Family → ℕ

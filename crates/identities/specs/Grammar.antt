@@ -1,7 +1,7 @@
 -- The text of an identity (001, section 6.3, with the components of section 5; document 02, C-16: our escapes). No reader is mentioned: an
 -- identity is its family and its parts as they are written, and has one text.
 use Rattle.std.specs.Prelude.{ℕ, ◌+◌, ◌<◌, ◌≤◌, ◌≡◌, List, [], ◌∷◌, ◌++◌, Bool, true, false, T, eqb, length}
-use Rattle.std.proofs.Math.Option.{Option, none, some}
+use Rattle.std.specs.Prelude.{Option, None, Some}
 use Rattle.rules.specs.Bytes.{bytes, among, dot, colon}
 use Rattle.rules.specs.Conditions.{Decimal, Whole, Spelled}
 use Rattle.identities.specs.declared.Family.{Family}
@@ -36,10 +36,10 @@ pub data Made : List Component → List (List ℕ) → Type 0 where
 
 -- the first two have so many digits together
 abbrev pub totals : Option ℕ → List (List ℕ) → Bool
-totals none xs = true
-totals (some n) [] = false
-totals (some n) (x ∷ []) = false
-totals (some n) (x ∷ y ∷ xs) = eqb (length x + length y) n
+totals None xs = true
+totals (Some n) [] = false
+totals (Some n) (x ∷ []) = false
+totals (Some n) (x ∷ y ∷ xs) = eqb (length x + length y) n
 
 pub record Identity : Type 0 where
   pub family : Family

@@ -1,7 +1,7 @@
 -- Identity text and filter to tag: the number (document 02, C-16: 23 to 25). All places are 0.
 use Rattle.std.specs.Prelude.{ℕ, List, [], ◌∷◌, ◌++◌, Bool, true, false, ◌&&◌, ◌||◌, cond, leb, ltb, eqb, length}
 use Prim.Native.Char.{code}
-use Rattle.std.proofs.Math.Option.{Option, none, some, map}
+use Rattle.std.specs.Prelude.{Option, None, Some, option_map}
 use Rattle.rules.specs.declared.Scheme.{Scheme}
 use Rattle.rules.specs.declared.Parts.{Parts}
 use Rattle.rules.specs.declared.Parts.TheVariants.{F, Integers}
@@ -18,8 +18,8 @@ use Rattle.identities.specs.Grammar.{part_characters, totals, Identity, start, l
 
 -- there is a value, and it passes a test
 abbrev pub holds : {X : Type 0} → (X → Bool) → Option X → Bool
-holds test none = false
-holds test (some x) = test x
+holds test None = false
+holds test (Some x) = test x
 
 -- a text has nothing but characters of a part reference and the escapes of `/` and `#`
 abbrev pub slash_or_hash : ℕ → ℕ → Bool
@@ -48,11 +48,11 @@ is PartReference x = parts_only x && some_of x
 
 -- the parts that a text of these components has: each up to the next dot, the last the rest
 abbrev pub divided_by : List Component → List ℕ → Option (List (List ℕ))
-divided_by [] t = none
-divided_by (c ∷ []) t = cond (is c t) (some (t ∷ [])) none
+divided_by [] t = None
+divided_by (c ∷ []) t = cond (is c t) (Some (t ∷ [])) None
 divided_by (c ∷ d ∷ cs) t =
-    let r = map (upto dot t ∷◌) (divided_by (d ∷ cs) (behind dot t)) in
-    cond (among dot t && is c (upto dot t)) r none
+    let r = option_map (upto dot t ∷◌) (divided_by (d ∷ cs) (behind dot t)) in
+    cond (among dot t && is c (upto dot t)) r None
 
 abbrev pub body_in : Family → List ℕ → Option (List (List ℕ))
 body_in f t = kept (totals (about f).total) (divided_by (about f).components t)
@@ -63,19 +63,19 @@ pub record Named : Type 0 where
   pub rest : List ℕ
 
 abbrev pub choose : Family → Option (List ℕ) → Option Named → Option Named
-choose f none o = o
-choose f (some v) o = some (record { family = f; rest = v })
+choose f None o = o
+choose f (Some v) o = Some (record { family = f; rest = v })
 
 abbrev pub named : List Family → List ℕ → Option Named
-named [] u = none
+named [] u = None
 named (f ∷ fs) u = choose f (after (label f) u) (named fs u)
 
 abbrev pub identified : Named → Option Identity
-identified c = map (λ ps. record { family = c.family; parts = ps }) (body_in c.family c.rest)
+identified c = option_map (λ ps. record { family = c.family; parts = ps }) (body_in c.family c.rest)
 
 abbrev pub and_then : {X Y : Type 0} → Option X → (X → Option Y) → Option Y
-and_then none k = none
-and_then (some x) k = k x
+and_then None k = None
+and_then (Some x) k = k x
 
 unfoldable pub identity_in : List ℕ → Option Identity
 identity_in t = and_then (after start t) λ u. and_then (named families u) identified
@@ -89,15 +89,15 @@ abbrev pub tag_text : ℕ → List ℕ → Scheme → List ℕ
 tag_text f body s = tagStart ++ (schemeLabel s ++ (filter_text (aboutScheme s).parts f ++ body))
 
 abbrev pub if_taken : {X : Type 0} → Answer X → Option X
-if_taken (refused n p) = none
-if_taken (taken x) = some x
+if_taken (refused n p) = None
+if_taken (taken x) = Some x
 
 unfoldable pub held_by : ℕ → List ℕ → Scheme → Option Tag
 held_by f body s = if_taken (tag_of_text (tag_text f body s))
 
 abbrev pub or_else : {X : Type 0} → Option X → Option X → Option X
-or_else none o = o
-or_else (some x) o = some x
+or_else None o = o
+or_else (Some x) o = Some x
 
 -- the 96-bit scheme if the serial fits it, else the long one
 abbrev pub chosen : ℕ → Family → List ℕ → Option Tag

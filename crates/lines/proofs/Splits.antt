@@ -1,17 +1,19 @@
 -- The lines of an input, one after the other: the bytes up to the first line feed, and what stands behind it.
-use Prim.Native.Nat.{ℕ, suc, ◌+◌, ◌-◌, ◌≤◌, ◌<◌}
+use Prim.Native.Nat.{ℕ, suc, ◌+◌, ◌≤◌, ◌<◌}
 use mathlib.Core.Path.{◌≡◌, refl, sym, ap, ◌∙◌}
 use mathlib.Core.List.{List, [], ◌∷◌, ◌++◌, append-nil}
 use mathlib.Core.Bool.{Bool, true, false, ◌||◌, not, cond}
+use Rattle.std.specs.Prelude.{Option, None, Some, MatchOption, position}
+use Rattle.std.specs.List.{position_or_len}
+use Rattle.std.proofs.lemmas.Bool.{ltb-true, ltb-false}
+use Rattle.std.proofs.lemmas.List.Recursion.{is_position_or_len}
 use native.Mathlib.Omega.{arith}
-use lib.Dec.{T, eqb}
-use lib.ListN.{length, take, drop, get_or, length-drop, drop_of_length-le}
-use lib.Seq.{take_at, take-append-add, drop-append-add, drop-drop}
-use borrow.Author.Tests.{ne_eqb}
+use lib.Dec.{T, eqb, ltb}
+use lib.ListN.{length, take, drop}
+use lib.Seq.{take_at, take-append-add, drop-append-add}
 use Rattle.rules.specs.Bytes.{among, upto, behind}
 use Rattle.rules.proofs.Tests.{is_false, both, and}
 use Rattle.rules.proofs.Runs.{run_is, without, among_of}
-use Rattle.digits.proofs.Runs.{drop_next}
 use Rattle.replies.specs.declared.Program.{Program}
 use Rattle.lines.specs.Lines.{feed, lines_of, printed, output_of}
 use Rattle.lines.specs.Turns.{finished, whole, end_reply}
@@ -37,6 +39,15 @@ upto_unfed (x ∷ t) = go (eqb feed x) refl (upto_unfed t)
     go true e h = tt
     go false e h = and (not (eqb feed x)) (without feed (upto feed t)) (rw e tt) h
 
+-- with no line feed in it, it is all
+upto_all : (t : List ℕ) → length t ≤ length (upto feed t) → upto feed t ≡ t
+upto_all [] h = refl
+upto_all (x ∷ t) h = go (eqb feed x) (upto_all t) h
+  where
+    go : (b : Bool) → (length t ≤ length (upto feed t) → upto feed t ≡ t) → suc (length t) ≤ length (cond b [] (x ∷ upto feed t)) → cond b [] (x ∷ upto feed t) ≡ x ∷ t
+    go true f h = absurd (omega arith)
+    go false f h = ap (x ∷◌) (f (omega arith))
+
 upto_short : (t : List ℕ) → length (upto feed t) < length t → T (among feed t)
 upto_short [] h = absurd (omega arith)
 upto_short (x ∷ t) h = go (eqb feed x) (upto_short t) h
@@ -45,13 +56,20 @@ upto_short (x ∷ t) h = go (eqb feed x) (upto_short t) h
     go true f h = tt
     go false f h = f (omega arith)
 
-upto_long : (t : List ℕ) → length t ≤ length (upto feed t) → Unfed t
-upto_long [] h = tt
-upto_long (x ∷ t) h = go (eqb feed x) refl (upto_long t) h
+-- the first line feed stands behind it, if there is one
+pub feed_found : (t : List ℕ) (r : Option ℕ) → r ≡ position (eqb feed) t → MatchOption r (upto feed t ≡ t) (λ n. (n ≡ length (upto feed t)) × (n < length t))
+feed_found t r e = rw e (go (position_or_len (eqb feed) t) long (ltb (position_or_len (eqb feed) t) (length t)) refl)
   where
-    go : (b : Bool) → eqb feed x ≡ b → (length t ≤ length (upto feed t) → Unfed t) → suc (length t) ≤ length (cond b [] (x ∷ upto feed t)) → Unfed (x ∷ t)
-    go true e f h = absurd (omega arith)
-    go false e f h = and (not (eqb feed x)) (without feed t) (rw e tt) (f (omega arith))
+    step : (x : ℕ) (t : List ℕ) (b : Bool) → length (cond b [] (x ∷ upto feed t)) ≡ cond b 0 (1 + length (upto feed t))
+    step x t true = refl
+    step x t false = omega arith
+
+    long : length (upto feed t) ≡ position_or_len (eqb feed) t
+    long = is_position_or_len (λ t. length (upto feed t)) (eqb feed) refl (λ x t. step x t (eqb feed x)) t
+
+    go : (n : ℕ) → length (upto feed t) ≡ n → (b : Bool) → ltb n (length t) ≡ b → MatchOption (cond b (Some n) None) (upto feed t ≡ t) (λ n. (n ≡ length (upto feed t)) × (n < length t))
+    go n k true h = (sym k, ltb-true n (length t) h)
+    go n k false h = upto_all t (omega (arith, ltb-false n (length t) h))
 
 -- One line, and those behind it.
 module _ (r : List ℕ) where
@@ -93,39 +111,19 @@ module _ (l r : List ℕ) (h : Unfed l) where
   unfolding whole
   first_ended = rw (first_finished r l h) (take-append-add l (feed ∷ r) (suc (finished r)))
 
--- The line that begins at a place of the input, where it has ended.
-module _ (t : List ℕ) (at end : ℕ) (place : end ≡ at + length (upto feed (drop at t))) where
-  pub not_ended : length t ≤ end → Unfed (drop at t)
-  not_ended h = upto_long (drop at t) (simp length-drop (omega arith))
+-- The first line of an input, where it has ended.
+module _ (t : List ℕ) (n : ℕ) (long : n ≡ length (upto feed t)) (h : n < length t) where
+  line_is : t ≡ upto feed t ++ feed ∷ behind feed t
+  line_is = run_is feed t (upto_short t (omega arith))
 
-  module _ (h : end < length t) where
-    line_is : drop at t ≡ upto feed (drop at t) ++ feed ∷ behind feed (drop at t)
-    line_is = run_is feed (drop at t) (upto_short (drop at t) (simp length-drop (omega arith)))
+  pub the_line : take n t ≡ upto feed t
+  the_line = ap (take n) line_is ∙ take_at (upto feed t) (feed ∷ behind feed t) n (sym long)
 
-    pub the_line : take (end - at) (drop at t) ≡ upto feed (drop at t)
-    the_line = ap (take (end - at)) line_is ∙ take_at (upto feed (drop at t)) (feed ∷ behind feed (drop at t)) (end - at) (omega arith)
+  the_rest : drop (n + 1) t ≡ behind feed t
+  the_rest = rw long (ap (drop (length (upto feed t) + 1)) line_is ∙ drop-append-add (upto feed t) (feed ∷ behind feed t) 1)
 
-    pub the_rest : drop (end + 1) t ≡ behind feed (drop at t)
-    the_rest =
-        let l : List ℕ = upto feed (drop at t) in
-        let r : List ℕ = behind feed (drop at t) in
-        let e : end + 1 ≡ at + (length l + 1) = omega arith in
-        rw e (sym (drop-drop (length l + 1) at t) ∙ ap (drop (length l + 1)) line_is ∙ drop-append-add l (feed ∷ r) 1)
+  pub ended_is : whole t ≡ upto feed t ++ feed ∷ whole (drop (n + 1) t)
+  ended_is = ap whole line_is ∙ first_ended (upto feed t) (behind feed t) (upto_unfed t) ∙ ap (λ r. upto feed t ++ feed ∷ whole r) (sym the_rest)
 
-    pub ended_is : whole (drop at t) ≡ upto feed (drop at t) ++ feed ∷ whole (drop (end + 1) t)
-    ended_is = ap whole line_is ∙ first_ended (upto feed (drop at t)) (behind feed (drop at t)) (upto_unfed (drop at t)) ∙ ap (λ r. upto feed (drop at t) ++ feed ∷ whole r) (sym the_rest)
-
-    pub output_is : (π : Program) → output_of π (whole (drop at t)) ≡ printed π (upto feed (drop at t)) ++ output_of π (whole (drop (end + 1) t))
-    output_is π = ap (output_of π) ended_is ∙ first_output (upto feed (drop at t)) (whole (drop (end + 1) t)) (upto_unfed (drop at t)) π
-
--- Where it ends, byte by byte.
-module _ (t : List ℕ) (i : ℕ) where
-  pub end_past : length t ≤ i → length (upto feed (drop i t)) ≡ 0
-  end_past h = rw (drop_of_length-le t h)
-
-  module _ (h : i < length t) where
-    pub end_here : get_or t i 0 ≡ feed → length (upto feed (drop i t)) ≡ 0
-    end_here e = rw (drop_next t i h, e)
-
-    pub end_later : ¬ (get_or t i 0 ≡ feed) → length (upto feed (drop i t)) ≡ suc (length (upto feed (drop (i + 1) t)))
-    end_later n = rw (drop_next t i h, ne_eqb feed (get_or t i 0) (λ e. n (sym e)))
+  pub output_is : (π : Program) → output_of π (whole t) ≡ printed π (upto feed t) ++ output_of π (whole (drop (n + 1) t))
+  output_is π = ap (output_of π) ended_is ∙ first_output (upto feed t) (whole (drop (n + 1) t)) (upto_unfed t) π

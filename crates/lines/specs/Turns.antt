@@ -1,5 +1,5 @@
 -- An input that is read in pieces. After each read the lines that have ended are answered, and the bytes behind them are kept.
-use Rattle.std.specs.Prelude.{ℕ, zero, suc, ◌+◌, ◌≡◌, List, [], ◌∷◌, ◌++◌, Bool, true, false, cond, length, take, drop}
+use Rattle.std.specs.Prelude.{ℕ, zero, suc, ◌+◌, ◌≡◌, List, [], ◌∷◌, ◌++◌, Bool, true, false, None, Some, cond, length, take, drop}
 use Rattle.rules.specs.Bytes.{among}
 use Rattle.replies.specs.Replies.{most_characters}
 use Rattle.replies.specs.Writing.{Wrote}
@@ -66,8 +66,9 @@ turn_at π n input = turn_of π (take n input) (drop n input)
 abbrev pub seen : List ℕ → List ℕ → List ℕ
 seen input out = if_room (input_room input) out input
 
--- The turn was taken: what it prints stands at the output's start, what it keeps at the input's, and both are otherwise unchanged.
+-- The turn was taken: what it prints stands at the output's start, what it keeps at the input's, and both are otherwise unchanged. How many bytes
+-- are kept is told unless the input has ended.
 pub record Took (t : Turn) (input out : List ℕ) (r : Turned) (input' out' : List ℕ) : Type 0 where
   pub printed : Wrote t.prints out r.written out'
-  pub kept : Wrote t.keeps input r.kept input'
-  pub ended : r.ended ≡ t.ends
+  pub kept : Wrote t.keeps input (length t.keeps) input'
+  pub told : r.kept ≡ cond t.ends None (Some (length t.keeps))

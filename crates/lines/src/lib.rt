@@ -2,7 +2,7 @@
 // here reads or writes: a program does, and hands over what each read gave.
 #![tactic(auto)]
 
-ghost use Rattle.std.specs.Prelude.{◌≡◌, ◌+◌, ◌*◌, ◌≤◌, leb, length, drop};
+ghost use Rattle.std.specs.Prelude.{◌≡◌, ◌+◌, ◌*◌, ◌≤◌, ◌<◌, leb, length, drop, MatchOption};
 ghost use Rattle.rules.specs.Bytes.{upto};
 ghost use Rattle.replies.specs.Writing.{Wrote, reply_room};
 ghost use Rattle.lines.specs.Lines.{feed, printed, output_of, if_room, growth, input_room};
@@ -29,7 +29,8 @@ pub fn reply(program: Program, line: &[u8], out: &mut [u8]) -> usize
     n + 1
 }
 
-// Writes the reply to the bytes behind the input's last line feed, if there are any.
+// Writes the reply to the bytes behind the input's last line feed, if there are any. Their number is compared, and not `is_empty` asked, since
+// `empty_last_line_answered` (must-fail) changes it.
 fn end_reply(program: Program, rest: &[u8], out: &mut [u8]) -> usize
     requires { reply_room ≤ length out.old }
     ensures { Wrote (end_reply program rest.now) out.old result out.new }
@@ -40,18 +41,11 @@ fn end_reply(program: Program, rest: &[u8], out: &mut [u8]) -> usize
     reply(program, rest, out)
 }
 
-// Where the line ends that begins at `from`: at the next line feed, or at the end of the input.
-fn line_end(input: &[u8], from: usize) -> usize
-    ensures { result ≡ from + length (upto feed (drop from input.now)) }
+// How long the line is that begins where `rest` does, if it has ended: so many bytes stand before the next line feed.
+fn line_length(rest: &[u8]) -> Option<usize>
+    ensures { MatchOption result (upto feed rest.now ≡ rest.now) (λ n. (n ≡ length (upto feed rest.now)) × (n < length rest.now)) }
 {
-    let mut i = from;
-    while i < input.len() {
-        if input[i] == b'\n' {
-            break;
-        }
-        i += 1;
-    }
-    i
+    rest.iter().position(|b| *b == b'\n')
 }
 
 // How many bytes of the input were answered, and how many bytes were written for them.
@@ -67,14 +61,13 @@ fn answer_ended(program: Program, input: &[u8], out: &mut [u8]) -> Done
     ensures read_value { result.read ≡ length (whole input.now) }
     ensures wrote { Wrote (output_of program (whole input.now)) out.old result.written out.new }
 {
-    let mut read = 0;
+    let mut rest = input;
     let mut written = 0;
-    let mut end = line_end(input, 0);
-    while end < input.len() {
-        written += reply(program, &input[read..end], &mut out[written..]);
-        read = end + 1;
-        end = line_end(input, read);
+    while let Some(n) = line_length(rest) {
+        written += reply(program, &rest[..n], &mut out[written..]);
+        rest = &rest[n + 1..];
     }
+    let read = input.len() - rest.len();
     Done { read, written }
 }
 
@@ -83,14 +76,8 @@ fn hold(input: &mut [u8], from: usize) -> usize
     requires { from ≤ length input.old }
     ensures { Wrote (kept from input.old) input.old result input.new }
 {
-    let mut n = 0;
-    while n < MOST_KEPT {
-        if input.len() - from <= n {
-            break;
-        }
-        input[n] = input[from + n];
-        n += 1;
-    }
+    let n = MOST_KEPT.min(input.len() - from);
+    input.copy_within(from..from + n, 0);
     n
 }
 
@@ -104,12 +91,11 @@ fn has_room(input: usize, out: usize) -> bool
     input <= (out - REPLY_ROOM) / GROWTH
 }
 
-// What a turn leaves: how many bytes are kept at the input's start, how many were written at the output's, and whether the input has ended.
+// What a turn leaves: how many bytes are kept at the input's start, unless the input has ended; and how many were written at the output's.
 #[derive(Drop)]
 pub struct Turned {
-    pub kept: usize,
+    pub kept: Option<usize>,
     pub written: usize,
-    pub ended: bool,
 }
 
 // One turn of a session. The first `kept` bytes of the input are those that the turn before kept, and the others were just read. If there are
@@ -120,24 +106,21 @@ pub fn turn(program: Program, input: &mut [u8], kept: usize, out: &mut [u8]) -> 
 {
     if !has_room(input.len(), out.len()) {
         return Turned {
-            kept: 0,
+            kept: None,
             written: 0,
-            ended: true,
         };
     }
     if input.len() <= kept {
         let written = end_reply(program, input, out);
         return Turned {
-            kept: 0,
+            kept: None,
             written,
-            ended: true,
         };
     }
     let done = answer_ended(program, input, out);
     let held = hold(input, done.read);
     Turned {
-        kept: held,
+        kept: Some(held),
         written: done.written,
-        ended: false,
     }
 }

@@ -20,7 +20,8 @@ use Rattle.rules.proofs.ControlReads.{opened}
 use Rattle.digits.proofs.Runs.{drop_next}
 use Rattle.parts.specs.Controls.{valued_at, controlled_by}
 use Rattle.parts.specs.declared.control.Valued.{Valued}
-use Rattle.parts.specs.declared.control.Controlled.TheVariants.{By, Wrong}
+use Rattle.std.specs.Prelude.{Ok}
+use Rattle.scheme.specs.Refusals.{refusal}
 
 -- a field's value is the written rules', and behind the field the text goes on
 module _ (f : ControlName) (t : List ℕ) (i : ℕ) (m : Valued) (l : i ≤ length t) (e : m ≡ valued_at f i (drop i t)) where
@@ -54,23 +55,23 @@ module _ (t : List ℕ) (i : ℕ) (m : Valued) (inside : i ≤ length t) (first 
           end,
         )
 
-    pub text_ends : length t ≤ a.next → Wrong a.next ≡ controlled_by (bracketed i (drop i t))
+    pub text_ends : length t ≤ a.next → refusal 20 a.next ≡ controlled_by (bracketed i (drop i t))
     text_ends l = rw (fields_read, drop_of_length-le t l)
 
     module _ (more : a.next < length t) where
-      pub no_colon : ¬ (get_or t a.next 0 ≡ code ":") → Wrong a.next ≡ controlled_by (bracketed i (drop i t))
+      pub no_colon : ¬ (get_or t a.next 0 ≡ code ":") → refusal 20 a.next ≡ controlled_by (bracketed i (drop i t))
       no_colon n = rw (fields_read, drop_next t a.next more, ne_eqb (code ":") (get_or t a.next 0) (λ e. n (sym e)))
 
-      pub a_colon : get_or t a.next 0 ≡ code ":" → By read (a.next + 1) ≡ controlled_by (bracketed i (drop i t))
+      pub a_colon : get_or t a.next 0 ≡ code ":" → Ok (record { control = read; next = a.next + 1 }) ≡ controlled_by (bracketed i (drop i t))
       a_colon e = rw (fields_read, drop_next t a.next more, e)
 
 -- no bracket, or one
 module _ (t : List ℕ) (i : ℕ) where
-  pub at_the_end : length t ≤ i → By no_fields i ≡ controlled_by (control_fields_in i (drop i t))
+  pub at_the_end : length t ≤ i → Ok (record { control = no_fields; next = i }) ≡ controlled_by (control_fields_in i (drop i t))
   at_the_end l = rw (drop_of_length-le t l)
 
   module _ (more : i < length t) where
-    pub no_bracket : ¬ (get_or t i 0 ≡ code "[") → By no_fields i ≡ controlled_by (control_fields_in i (drop i t))
+    pub no_bracket : ¬ (get_or t i 0 ≡ code "[") → Ok (record { control = no_fields; next = i }) ≡ controlled_by (control_fields_in i (drop i t))
     no_bracket n = let d = drop_next t i more in rw (d, ne_eqb (get_or t i 0) (code "[") n)
 
     pub a_bracket : get_or t i 0 ≡ code "[" → controlled_by (bracketed i (drop i t)) ≡ controlled_by (control_fields_in i (drop i t))

@@ -32,13 +32,9 @@ abbrev pub zero_first : List ℕ → Bool
 zero_first [] = false
 zero_first (d ∷ ds) = eqb d 0
 
-pub and_true : (b : Bool) → b ≡ (b && true)
+and_true : (b : Bool) → b ≡ (b && true)
 and_true true = refl
 and_true false = refl
-
-pub and_false : (b : Bool) → false ≡ (b && false)
-and_false true = refl
-and_false false = refl
 
 nonzero : (d : ℕ) → not (eqb d 0) ≡ ltb 0 d
 nonzero zero = refl

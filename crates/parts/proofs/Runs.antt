@@ -1,18 +1,22 @@
--- A run with no separator in it grows byte by byte.
-use Prim.Native.Nat.{ℕ, zero, suc, ◌+◌, ◌*◌, ◌≤◌, ◌<◌}
+-- The rest of a text; and a run with no separator in it, which grows byte by byte.
+use Prim.Native.Nat.{ℕ, zero, suc, ◌+◌, ◌-◌, ◌*◌, ◌≤◌, ◌<◌}
 use mathlib.Core.Path.{◌≡◌, sym, ap, ◌∙◌}
 use mathlib.Core.Bool.{true, not}
 use mathlib.Core.List.{List, [], ◌∷◌, ◌++◌}
 use native.Mathlib.Omega.{arith}
 use native.Mathlib.Numerals.{add-one}
 use lib.Dec.{T, eqb}
-use lib.ListN.{length, take, drop, get_or, length-append, take-append-drop}
-use lib.Seq.{take-suc, drop-cons}
+use lib.ListN.{length, take, drop, get_or, length-append, length-drop, take-append-drop}
+use lib.Seq.{take-suc, take_all, drop-cons}
 use Rattle.numeral.specs.Numeral.{value}
 use Rattle.numeral.proofs.Values.{value_snoc}
 use Rattle.rules.specs.Bytes.{among, upto, behind}
 use Rattle.rules.proofs.Tests.{is_false, both, and}
 use Rattle.rules.proofs.Runs.{without, run_is, among_of, upto_of, behind_of_lem}
+
+-- the part of a text from an index on, as it is lent
+pub from_index : (t : List ℕ) (i : ℕ) → i ≤ length t → take (length t - i) (drop i t) ≡ drop i t
+from_index t i h = take_all (length t - i) (drop i t) (omega (arith, length-drop i t))
 
 without_append : (x : ℕ) (s t : List ℕ) → T (without x s) → T (without x t) → T (without x (s ++ t))
 without_append x [] t h k = k

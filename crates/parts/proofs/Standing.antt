@@ -3,12 +3,12 @@ use Prim.Native.Nat.{ℕ, zero, suc, ◌+◌, ◌-◌, ◌<◌}
 use mathlib.Core.Path.{◌≡◌, refl, sym, ap, ◌∙◌}
 use mathlib.Core.Bool.{Bool, true, false, ◌&&◌}
 use mathlib.Core.List.{List, [], ◌∷◌, ◌++◌}
-use mathlib.Core.Option.{Option, none, some}
+use Rattle.std.specs.Prelude.{Option, None, Some, Ok, Err}
 use native.Mathlib.Omega.{arith}
 use lib.Dec.{eqb}
 use native.Mathlib.Nat.{add-zero}
-use lib.ListN.{length, drop, get_or}
-use lib.Seq.{get_or-drop}
+use lib.ListN.{length, take, drop, get_or, length-drop}
+use lib.Seq.{get_or-drop, take_all}
 use borrow.Author.Tests.{ne_eqb}
 use Rattle.numeral.specs.Numeral.{value}
 use Rattle.rules.specs.Answers.{refused, taken, ◌>>=◌, ◌>>◌, demand, given, kept}
@@ -21,7 +21,9 @@ use Rattle.digits.proofs.Parts.{part_at, no_part_at}
 use Rattle.parts.specs.Parts.{form_of, Short, fitting, found_of}
 use Rattle.parts.specs.declared.parts.Form.{Form}
 use Rattle.parts.specs.declared.parts.Form.TheVariants.{Prefix, Digits, Integer, AtMost}
-use Rattle.parts.specs.declared.parts.Part.TheVariants.{Is, Wrong}
+use Rattle.scheme.specs.declared.refusal.Rule.{Rule}
+use Rattle.scheme.specs.Refusals.{number, by}
+use Rattle.scheme.proofs.Numbers.{rule_of_number}
 use Rattle.parts.proofs.Fitting.{zero_first, fitting_is, too_many}
 
 -- each form of the code is one of digits
@@ -37,27 +39,27 @@ right f ds = shaped (form_of f) ds && sized (form_of f) ds
 -- a part is taken if it has a dot behind it and its digits are right
 module _ (f : Form) (u : List ℕ) (n i : ℕ) where
   judged : (ds : List ℕ) (s z : Bool) → shaped (form_of f) ds ≡ s → sized (form_of f) ds ≡ z → (s && z) ≡ false
-      → (given (kept (shaped (form_of f)) (some ds)) n i >>= λ p. demand (sized (form_of f) p) n i >> taken p) ≡ refused n i
+      → (given (kept (shaped (form_of f)) (Some ds)) n i >>= λ p. demand (sized (form_of f) p) n i >> taken p) ≡ refused n i
   judged ds true true e q h = let x : ◌≡◌ {A = ℕ} 0 1 = cc in absurd (omega arith)
   judged ds true false e q h = rw (e, q)
   judged ds false z e q h = rw e
 
-  pub part_refused : ((ds : List ℕ) → among dot u ≡ true → digits_in (upto dot u) ≡ some ds → right f ds ≡ false) → part_in n i (form_of f) u ≡ refused n i
+  pub part_refused : ((ds : List ℕ) → among dot u ≡ true → digits_in (upto dot u) ≡ Some ds → right f ds ≡ false) → part_in n i (form_of f) u ≡ refused n i
   part_refused h = go (among dot u) refl
     where
       read : (o : Option (List ℕ)) → among dot u ≡ true → digits_in (upto dot u) ≡ o → (given (kept (shaped (form_of f)) o) n i >>= λ p. demand (sized (form_of f) p) n i >> taken p) ≡ refused n i
-      read none a e = refl
-      read (some ds) a e = judged ds (shaped (form_of f) ds) (sized (form_of f) ds) refl refl (h ds a e)
+      read None a e = refl
+      read (Some ds) a e = judged ds (shaped (form_of f) ds) (sized (form_of f) ds) refl refl (h ds a e)
 
       go : (b : Bool) → among dot u ≡ b → part_in n i (form_of f) u ≡ refused n i
       go false e = rw e
       go true e = rw (e, symbols_digits f (upto dot u)) (read (digits_in (upto dot u)) e refl)
 
-  pub part_taken : (ds : List ℕ) → among dot u ≡ true → digits_in (upto dot u) ≡ some ds → right f ds ≡ true → part_in n i (form_of f) u ≡ taken ds
+  pub part_taken : (ds : List ℕ) → among dot u ≡ true → digits_in (upto dot u) ≡ Some ds → right f ds ≡ true → part_in n i (form_of f) u ≡ taken ds
   part_taken ds a e h = rw (a, symbols_digits f (upto dot u), e) (go (shaped (form_of f) ds) (sized (form_of f) ds) refl refl h)
     where
       go : (s z : Bool) → shaped (form_of f) ds ≡ s → sized (form_of f) ds ≡ z → (s && z) ≡ true
-          → (given (kept (shaped (form_of f)) (some ds)) n i >>= λ p. demand (sized (form_of f) p) n i >> taken p) ≡ taken ds
+          → (given (kept (shaped (form_of f)) (Some ds)) n i >>= λ p. demand (sized (form_of f) p) n i >> taken p) ≡ taken ds
       go true true e q h = rw (e, q)
       go true false e q h = let x : ◌≡◌ {A = ℕ} 0 1 = cc in absurd (omega arith)
       go false z e q h = let x : ◌≡◌ {A = ℕ} 0 1 = cc in absurd (omega arith)
@@ -80,30 +82,45 @@ pub first_byte : (text : List ℕ) (at : ℕ) → get_or text at 0 ≡ get_or (d
 first_byte text at =
     ap (λ i. get_or text i 0) (sym (add-zero at)) ∙ sym (get_or-drop at text 0 0) ∙ ap (λ l. get_or l 0 0) (run_starts (leading 19 (drop at text)))
 
-same_part : (v n m v' n' m' : ℕ) → v ≡ v' → n ≡ n' → m ≡ m' → Is v n m ≡ Is v' n' m'
-same_part v n m v' n' m' e f g = λ i. Is (e i) (f i) (g i)
+-- the slice of a text from index `at` on
+abbrev pub ahead : List ℕ → ℕ → List ℕ
+ahead text at = take (length text - at) (drop at text)
 
--- The run from `at` on, of value v, ends before `end`.
-module _ (f : Form) (short : Short f) (text : List ℕ) (at end v : ℕ) (place : end ≡ at + length (leading_digits 19 (drop at text))) (is : v ≡ value 10 (leading_digits 19 (drop at text))) where
-  pub none_stands : (end < length text → ¬ (get_or text end 0 ≡ dot)) → Wrong at ≡ found_of at (part_in 0 at (form_of f) (drop at text))
-  none_stands h =
-      sym (ap (found_of at) (part_refused f (drop at text) 0 at λ ds a e. too_many f short ds (no_part_at 19 text at end place h ds e a)))
+pub ahead_is : (text : List ℕ) (at : ℕ) → ahead text at ≡ drop at text
+ahead_is text at = take_all (length text - at) (drop at text) (omega (arith, length-drop at text))
 
-  tested : fitting (form_of f) (end - at) (eqb (get_or text at 0) 48) v ≡ right f (leading_digits 19 (drop at text))
+-- The run from `at` on has j digits, and the value v.
+module _ (f : Form) (short : Short f) (rule : Rule) (text : List ℕ) (at j v : ℕ) (told : j ≡ length (leading_digits 19 (ahead text at))) (worth : v ≡ value 10 (leading_digits 19 (ahead text at))) where
+  many : j ≡ length (leading_digits 19 (drop at text))
+  many = rw (ahead_is text at) at told
+
+  is : v ≡ value 10 (leading_digits 19 (drop at text))
+  is = rw (ahead_is text at) at worth
+
+  place : at + j ≡ at + length (leading_digits 19 (drop at text))
+  place = ap (at +◌) many
+
+  -- a part that is refused is so by the rule
+  by_rule : part_in (number rule) at (form_of f) (drop at text) ≡ refused (number rule) at → Err (by rule at) ≡ found_of at (part_in (number rule) at (form_of f) (drop at text))
+  by_rule e = rw (e, rule_of_number rule)
+
+  pub none_stands : (at + j < length text → ¬ (get_or text (at + j) 0 ≡ dot)) → Err (by rule at) ≡ found_of at (part_in (number rule) at (form_of f) (drop at text))
+  none_stands h = by_rule (part_refused f (drop at text) (number rule) at λ ds a e. too_many f short ds (no_part_at 19 text at (at + j) place h ds e a))
+
+  tested : fitting (form_of f) j (eqb (get_or text at 0) 48) v ≡ right f (leading_digits 19 (drop at text))
   tested =
       let D = leading_digits 19 (drop at text) in
-      let n : end - at ≡ length D = omega arith in
-      rw (n, first_byte text at, is) (zero_first_lem f D (drop (length D) (drop at text)) (value 10 D) ∙ fitting_is f D)
+      rw (many, first_byte text at, is) (zero_first_lem f D (drop (length D) (drop at text)) (value 10 D) ∙ fitting_is f D)
 
-  module _ (inside : end < length text) (dotted : get_or text end 0 ≡ dot) where
-    pub stands_not : fitting (form_of f) (end - at) (eqb (get_or text at 0) 48) v ≡ false → Wrong at ≡ found_of at (part_in 0 at (form_of f) (drop at text))
+  module _ (inside : at + j < length text) (dotted : get_or text (at + j) 0 ≡ dot) where
+    pub stands_not : fitting (form_of f) j (eqb (get_or text at 0) 48) v ≡ false → Err (by rule at) ≡ found_of at (part_in (number rule) at (form_of f) (drop at text))
     stands_not h =
-        let d = part_at 19 text at end place inside dotted in
-        sym (ap (found_of at) (part_refused f (drop at text) 0 at λ ds a e. let q : ds ≡ leading_digits 19 (drop at text) = cc d.digits in rw q (sym tested ∙ h)))
+        let d = part_at 19 text at (at + j) place inside dotted in
+        by_rule (part_refused f (drop at text) (number rule) at λ ds a e. let q : ds ≡ leading_digits 19 (drop at text) = cc d.digits in rw q (sym tested ∙ h))
 
-    pub stands : fitting (form_of f) (end - at) (eqb (get_or text at 0) 48) v ≡ true
-        → Is v (end - at) (end + 1) ≡ found_of at (part_in 0 at (form_of f) (drop at text))
+    pub stands : fitting (form_of f) j (eqb (get_or text at 0) 48) v ≡ true
+        → Ok (record { value = v; digits = j; next = at + j + 1 }) ≡ found_of at (part_in (number rule) at (form_of f) (drop at text))
     stands h =
-        let d = part_at 19 text at end place inside dotted in
-        same_part _ _ _ _ _ _ is (omega arith) (omega arith)
-        ∙ sym (ap (found_of at) (part_taken f (drop at text) 0 at (leading_digits 19 (drop at text)) d.dotted d.digits (sym tested ∙ h)))
+        let d = part_at 19 text at (at + j) place inside dotted in
+        let D = leading_digits 19 (drop at text) in
+        rw (part_taken f (drop at text) (number rule) at D d.dotted d.digits (sym tested ∙ h), many, is)

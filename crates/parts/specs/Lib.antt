@@ -2,3 +2,4 @@
 pub mod Controls
 pub mod Names
 pub mod Parts
+pub mod Rests

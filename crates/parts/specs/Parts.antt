@@ -1,5 +1,6 @@
 -- A numeric part as the code holds it: its form, its value and its digits.
 use Rattle.std.specs.Prelude.{ℕ, ◌+◌, ◌^◌, ◌≤◌, Bool, true, false, ◌&&◌, ◌||◌, not, cond, List, leb, ltb, eqb, length}
+use Rattle.std.specs.Prelude.{Result, Ok}
 use Rattle.numeral.specs.Numeral.{value}
 use Rattle.rules.specs.Answers.{Answer, refused, taken}
 use Rattle.rules.specs.Schemes.{company, digits, integer, string, at_most, numeric}
@@ -7,10 +8,10 @@ use Rattle.rules.specs.Schemes.{Form as RulesForm}
 use Rattle.parts.specs.declared.parts.Form.{Form}
 use Rattle.parts.specs.declared.parts.Form.TheVariants.{Prefix, Digits, Integer, AtMost}
 use Rattle.parts.specs.declared.parts.Part.{Part}
-use Rattle.parts.specs.declared.parts.Part.TheVariants.{Wrong}
-use Rattle.parts.specs.declared.parts.Part.TheVariants.{Is as Found}
-use Rattle.parts.specs.declared.parts.End.{End}
-use Rattle.parts.specs.declared.parts.End.TheVariants.{Is, Refused}
+use Rattle.scheme.specs.declared.refusal.Refusal.{Refusal}
+use Rattle.scheme.specs.declared.refusal.Rule.{Rule}
+use Rattle.scheme.specs.declared.refusal.Rule.TheVariants.{LastPartForm, LastPartSize}
+use Rattle.scheme.specs.Refusals.{refusal}
 
 -- the rules' form; the bits of a part whose digits are counted play no part in its text
 abbrev pub form_of : Form → RulesForm
@@ -40,25 +41,25 @@ fitting (at_most b k) n zero v = plainly n zero && leb n k
 fitting (numeric b k) n zero v = false
 
 -- what a part that stands at an index is in code
-abbrev pub found_of : ℕ → Answer (List ℕ) → Part
-found_of at (refused n p) = Wrong p
-found_of at (taken p) = Found (value 10 p) (length p) (at + length p + 1)
+abbrev pub found_of : ℕ → Answer (List ℕ) → Result Part Refusal
+found_of at (refused n p) = refusal n p
+found_of at (taken p) = Ok (record { value = value 10 p; digits = length p; next = at + length p + 1 })
 
 -- what a part that ends the text is in code
-abbrev pub end_of : Answer (List ℕ) → End
-end_of (refused n p) = Refused n p
-end_of (taken p) = Is (value 10 p)
+abbrev pub end_of : Answer (List ℕ) → Result ℕ Refusal
+end_of (refused n p) = refusal n p
+end_of (taken p) = Ok (value 10 p)
 
--- a part of more digits than are read, by where it begins, the rest of it, and whether a zero stands where none may
-abbrev pub longer_of : ℕ → Bool → Bool → End
-longer_of i true true = Refused 7 i
-longer_of i true false = Refused 8 i
-longer_of i false zero = Refused 7 i
+-- the rule that a part of more digits than are read breaks, by whether the rest of it is digits, and whether a zero stands where none may
+abbrev pub longer_of : Bool → Bool → Rule
+longer_of true true = LastPartForm
+longer_of true false = LastPartSize
+longer_of false zero = LastPartForm
 
 -- an integer by where it begins, its number of digits, its first digit and its value: its form, then its size
-abbrev pub sized_of : ℕ → Bool → ℕ → End
-sized_of i true v = Is v
-sized_of i false v = Refused 8 i
+abbrev pub sized_of : ℕ → Bool → ℕ → Result ℕ Refusal
+sized_of i true v = Ok v
+sized_of i false v = refusal 8 i
 
-abbrev pub shorter_of : ℕ → ℕ → ℕ → Bool → ℕ → End
-shorter_of i b n zero v = cond (plainly n zero) (sized_of i (ltb v (2 ^ b)) v) (Refused 7 i)
+abbrev pub shorter_of : ℕ → ℕ → ℕ → Bool → ℕ → Result ℕ Refusal
+shorter_of i b n zero v = cond (plainly n zero) (sized_of i (ltb v (2 ^ b)) v) (refusal 7 i)

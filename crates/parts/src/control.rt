@@ -1,17 +1,19 @@
 // The control fields of a text (document 02, C-13): `[umi=1]`, then `[att=xNN]`, each only if it is not zero, and a colon behind the last.
-ghost use Rattle.std.specs.Prelude.{◌≡◌, ◌≤◌, length, drop};
+ghost use Rattle.std.specs.Prelude.{◌≡◌};
 ghost use Rattle.rules.specs.TextNumbers.{bracketed, control_fields_in};
-ghost use Rattle.parts.specs.Controls.{absent as absentAt, two_digits, valued_at, controlled_by};
+ghost use Rattle.parts.specs.Controls.{two_digits, valued_at, standing_at, controlled_by};
+ghost use Rattle.parts.specs.Rests.{left};
 
+use crate::rest::Rest;
 use digits::{begins, hex_value};
 use rules::{ControlFields, ControlName};
+use scheme::refusal::{Refusal, Rule};
 
-// Control fields, and where the text goes on behind their colon; or where the first of them that is wrong begins, or the colon that is missing
-// should stand.
-#[derive(Drop)]
-pub enum Controlled {
-    By(ControlFields, usize),
-    Wrong(usize),
+// Control fields, and where the text goes on behind their colon.
+#[derive(Clone, Copy)]
+pub struct Controlled {
+    pub control: ControlFields,
+    pub next: usize,
 }
 
 // The characters of each field.
@@ -20,115 +22,98 @@ const UMI_LENGTH: usize = 7;
 const ATT_LENGTH: usize = 9;
 
 // A field's value, and where the text goes on behind it.
-#[derive(Drop)]
+#[derive(Clone, Copy)]
 struct Valued {
     value: u8,
     next: usize,
 }
 
-// No field stands at `at`.
-fn absent(at: usize) -> Valued
-    ensures { result ≡ absentAt at }
+// The field `umi`, if it stands next.
+fn umi_at(rest: Rest<'_>) -> Option<Valued>
+    ensures { result ≡ standing_at ControlName.Umi rest.entry.at (left rest.entry) }
 {
-    Valued { value: 0, next: at }
-}
-
-// The field `umi` at `at`.
-fn umi_at(text: &[u8], at: usize) -> Valued
-    requires { at ≤ length text.now }
-    ensures { result ≡ valued_at ControlName.Umi at (drop at text.now) }
-{
-    if !begins(&text[at..], b"[umi=1]") {
-        return absent(at);
+    if !begins(&rest.text[rest.at..], b"[umi=1]") {
+        return None;
     }
-    Valued {
+    Some(Valued {
         value: 1,
-        next: at + UMI_LENGTH,
-    }
+        next: rest.at + UMI_LENGTH,
+    })
 }
 
-// The value of two upper-case hexadecimal digits; 0 where one of them is none.
-fn two_digits(first: u8, second: u8) -> u8
+// The value of two upper-case hexadecimal digits.
+fn two_digits(first: u8, second: u8) -> Option<u8>
     ensures { result ≡ two_digits first second }
 {
-    let high = hex_value(first);
-    let low = hex_value(second);
-    if 16 <= high {
-        return 0;
-    }
-    if 16 <= low {
-        return 0;
-    }
-    16 * high + low
+    let high = hex_value(first)?;
+    let low = hex_value(second)?;
+    Some(16 * high + low)
 }
 
-// The field `att` at `at`: its digits stand behind six characters, and a bracket behind them.
-fn att_at(text: &[u8], at: usize) -> Valued
-    requires { at ≤ length text.now }
-    ensures { result ≡ valued_at ControlName.Att at (drop at text.now) }
+// The field `att`, if it stands next: its digits stand behind six characters, and a bracket behind them.
+fn att_at(rest: Rest<'_>) -> Option<Valued>
+    ensures { result ≡ standing_at ControlName.Att rest.entry.at (left rest.entry) }
 {
-    if text.len() - at < ATT_LENGTH {
-        return absent(at);
+    if rest.text.len() - rest.at < ATT_LENGTH
+        || !begins(&rest.text[rest.at..], b"[att=x")
+        || rest.text[rest.at + 8] != b']'
+    {
+        return None;
     }
-    if !begins(&text[at..], b"[att=x") {
-        return absent(at);
-    }
-    if text[at + 8] != b']' {
-        return absent(at);
-    }
-    let value = two_digits(text[at + 6], text[at + 7]);
+    let value = two_digits(rest.text[rest.at + 6], rest.text[rest.at + 7])?;
     if value == 0 {
-        return absent(at);
+        return None;
     }
-    Valued {
+    Some(Valued {
         value,
-        next: at + ATT_LENGTH,
-    }
+        next: rest.at + ATT_LENGTH,
+    })
 }
 
-// The field of this name at `at`.
-fn field_at(text: &[u8], at: usize, name: ControlName) -> Valued
-    requires { at ≤ length text.now }
-    ensures { result ≡ valued_at name at (drop at text.now) }
+// The next field, by this name: its value is 0 where it does not stand. One function for both, since `att_before_umi` and `field_repeated` (must-fail)
+// hand over the other name.
+fn field_at(rest: Rest<'_>, name: ControlName) -> Valued
+    ensures { result ≡ valued_at name rest.entry.at (left rest.entry) }
 {
-    match name {
-        ControlName::Umi => umi_at(text, at),
-        ControlName::Att => att_at(text, at),
-    }
+    let field = match name {
+        ControlName::Umi => umi_at(rest),
+        ControlName::Att => att_at(rest),
+    };
+    field.unwrap_or(Valued {
+        value: 0,
+        next: rest.at,
+    })
 }
 
-// The control fields of a text that has a bracket at `at`.
-fn bracketed_at(text: &[u8], at: usize) -> Controlled
-    requires { at ≤ length text.now }
-    ensures { result ≡ controlled_by (bracketed at (drop at text.now)) }
+// The control fields of a text whose next byte is a bracket.
+fn bracketed_at(rest: Rest<'_>) -> Result<Controlled, Refusal>
+    ensures { result ≡ controlled_by (bracketed rest.entry.at (left rest.entry)) }
 {
-    let umi = field_at(text, at, ControlName::Umi);
-    let att = field_at(text, umi.next, ControlName::Att);
+    let umi = field_at(rest, ControlName::Umi);
+    let att = field_at(rest.behind(umi.next), ControlName::Att);
     let end = att.next;
-    if text.len() <= end {
-        return Controlled::Wrong(end);
-    }
-    if text[end] != b':' {
-        return Controlled::Wrong(end);
+    if rest.text.len() <= end || rest.text[end] != b':' {
+        return Err(Rule::ControlFields.at(end));
     }
     let control = ControlFields {
         umi: umi.value,
         att: att.value,
     };
-    Controlled::By(control, end + 1)
+    Ok(Controlled {
+        control,
+        next: end + 1,
+    })
 }
 
-// The control fields at `at`, if a bracket stands there.
-pub fn control_at(text: &[u8], at: usize) -> Controlled
-    requires { at ≤ length text.now }
-    ensures { result ≡ controlled_by (control_fields_in at (drop at text.now)) }
+// The control fields that stand next, if a bracket does. They are refused where the first wrong one begins, or where their colon is missing.
+pub fn control_at(rest: Rest<'_>) -> Result<Controlled, Refusal>
+    ensures { result ≡ controlled_by (control_fields_in rest.entry.at (left rest.entry)) }
 {
-    let none = ControlFields { umi: 0, att: 0 };
-    if text.len() <= at {
-        return Controlled::By(none, at);
+    if rest.text.len() <= rest.at || rest.text[rest.at] != b'[' {
+        return Ok(Controlled {
+            control: ControlFields { umi: 0, att: 0 },
+            next: rest.at,
+        });
     }
-    if text[at] != b'[' {
-        return Controlled::By(none, at);
-    }
-    bracketed_at(text, at)
+    bracketed_at(rest)
 }

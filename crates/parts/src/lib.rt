@@ -4,7 +4,11 @@
 mod control;
 mod names;
 mod parts;
+mod rest;
 
 pub use control::{Controlled, control_at};
 pub use names::{Named, name};
-pub use parts::{End, Form, Part, digits_to_end, integer_to_end, numeric_to_end, part_at};
+pub use parts::{
+    Form, Part, digits_to_end, integer_to_end, numeric_to_end, part_at, reference_form,
+};
+pub use rest::Rest;

@@ -2,39 +2,39 @@
 use Prim.Native.Nat.{ℕ, zero, suc, ◌+◌, ◌*◌, ◌/◌, ◌%◌, ◌≤◌, ◌<◌}
 use mathlib.Core.Path.{◌≡◌, refl, sym, ap, ◌∙◌}
 use mathlib.Core.List.{List, [], ◌∷◌, ◌++◌}
-use mathlib.Core.Bool.{true, ◌&&◌}
+use mathlib.Core.Bool.{Bool, true, false, cond, ◌&&◌}
+use Rattle.std.specs.Prelude.{None, Some}
+use Rattle.std.specs.Option.{is_some}
 use native.Mathlib.Omega.{arith}
 use lib.Dec.{T, leb, ltb, eqb, eqb→eq, leb→le, ltb→lt}
 use lib.ListN.{length, take, drop, get_or, set}
 use lib.Seq.{take_at}
 use Rattle.numeral.specs.Numeral.{splice}
 use Rattle.numeral.proofs.Splices.{splice_snoc, length_splice, splice_front}
-use Rattle.rules.specs.Bytes.{all, hex_digits}
+use Rattle.rules.specs.Bytes.{all, among, hex_digits}
 use Rattle.rules.specs.Calls.{bank_room}
-use Rattle.rules.specs.TextNumbers.{is_digit}
-use Rattle.rules.proofs.Tests.{both, all_among, below_is}
-use Rattle.digits.proofs.Alls.{wrong_of}
-use Rattle.digits.specs.Digits.{hex_value}
-use Rattle.replies.specs.Hex.{is_hex, is_letter, bytes_in, most_digits, is_bank}
+use Rattle.rules.proofs.Tests.{both, all_among}
+use Rattle.digits.specs.Digits.{hex_place, hex_value}
+use Rattle.replies.specs.Hex.{is_hex, bytes_in, most_digits, is_bank}
 
--- Which bytes are letters, and which are digits: two tests over the 256 bytes.
-module _ (c : ℕ) (byte : c < 256) where
-  pub letter : wrong_of (leb 65 c && leb c 70) ≡ wrong_of (is_letter c)
-  letter = eqb→eq _ _ (below_is (λ c. eqb (wrong_of (leb 65 c && leb c 70)) (wrong_of (is_letter c))) 256 tt c byte)
-
-  pub digit_or_letter : wrong_of (is_digit c) * wrong_of (is_letter c) ≡ wrong_of (is_hex c)
-  unfolding is_hex
-  digit_or_letter = eqb→eq _ _ (below_is (λ c. eqb (wrong_of (is_digit c) * wrong_of (is_letter c)) (wrong_of (is_hex c))) 256 tt c byte)
+-- the code's test: a byte that has a value
+pub hex_is : (c : ℕ) → is_some (hex_value c) ≡ is_hex c
+unfolding is_hex hex_value
+hex_is c = go (among c hex_digits)
+  where
+    go : (b : Bool) → is_some (cond b (Some (hex_place c)) None) ≡ b
+    go true = refl
+    go false = refl
 
 module _ (c : ℕ) where
   -- what a digit is worth
-  pub value_is : T (is_hex c) → c % 16 + 9 * (c / 64) ≡ hex_value c
-  unfolding is_hex hex_value
-  value_is h = sym (eqb→eq (hex_value c) (c % 16 + 9 * (c / 64)) (all_among (λ x. eqb (hex_value x) (x % 16 + 9 * (x / 64))) hex_digits c tt h))
+  pub value_is : T (is_hex c) → c % 16 + 9 * (c / 64) ≡ hex_place c
+  unfolding is_hex hex_place
+  value_is h = sym (eqb→eq (hex_place c) (c % 16 + 9 * (c / 64)) (all_among (λ x. eqb (hex_place x) (x % 16 + 9 * (x / 64))) hex_digits c tt h))
 
-  pub value_lt : T (is_hex c) → hex_value c < 16
-  unfolding is_hex hex_value
-  value_lt h = ltb→lt (hex_value c) 16 (all_among (λ x. ltb (hex_value x) 16) hex_digits c tt h)
+  pub value_lt : T (is_hex c) → hex_place c < 16
+  unfolding is_hex hex_place
+  value_lt h = ltb→lt (hex_place c) 16 (all_among (λ x. ltb (hex_place x) 16) hex_digits c tt h)
 
 -- Two digits to a byte.
 abbrev twice : ℕ → ℕ
@@ -46,7 +46,7 @@ twice_is zero = refl
 twice_is (suc n) = omega (arith, twice_is n)
 
 abbrev byte_of : ℕ → ℕ → ℕ
-byte_of h l = 16 * hex_value h + hex_value l
+byte_of h l = 16 * hex_place h + hex_place l
 
 bytes_count : (n : ℕ) (t : List ℕ) → twice n ≤ length t → length (bytes_in (take (twice n) t)) ≡ n
 bytes_count zero t h = refl

@@ -5,12 +5,12 @@ use mathlib.Core.Path.{◌≡◌, refl, sym, ap, ◌∙◌}
 use mathlib.Core.List.{List, [], ◌∷◌, ◌++◌, append_assoc, append-nil}
 use native.Mathlib.Omega.{arith}
 use lib.Dec.{lit<}
-use lib.ListN.{length, take, drop, set, length-append, length-drop, take-append-drop, drop_of_length-le}
+use lib.ListN.{length, take, drop, set, length-append, length-take, length-drop, take-append-drop, drop_of_length-le}
 use lib.Seq.{take_all, take-append_seam, drop-append-le, drop-drop, append_snoc}
 use borrow.Rule.Slice.PartMut.{mid_of, post_of, put_mid, put_same}
 use Rattle.numeral.specs.Numeral.{splice, size, shortest}
 use Rattle.numeral.proofs.Shortest.{length_shortest, size_le}
-use Rattle.numeral.proofs.Splices.{splice_one, splice_snoc, splice_after, splice_nil, drop_to_splice, length_splice, splice_front}
+use Rattle.numeral.proofs.Splices.{splice_one, splice_snoc, splice_after, splice_nil, read_splice, drop_to_splice, length_splice, splice_front}
 use Rattle.digits.proofs.Texts.{length_text}
 use Rattle.replies.specs.Replies.{space, decimal, reply_r}
 use Rattle.replies.specs.Writing.{Wrote, after_number}
@@ -59,6 +59,26 @@ module _ (l e : List ℕ) (p : ℕ) where
 pub text_behind : (l l₁ x : List ℕ) (a : ℕ) → 2 + length x ≤ length l → l₁ ≡ splice l 2 x → set (set l₁ 0 a) 1 space ≡ splice l 0 (a ∷ space ∷ x)
 text_behind l l₁ x a h i =
     two_bytes l₁ a space (rw (i, length_splice l 2 x h) (omega arith)) ∙ rw i (before_piece l 2 (a ∷ space ∷ []) x refl (omega arith))
+
+-- the same of a text that stands there already, and the reply with it
+again : (l : List ℕ) (p n : ℕ) → p + n ≤ length l → splice l p (take n (drop p l)) ≡ l
+unfolding splice
+again l p n h =
+    let k : length (take n (drop p l)) ≡ n = omega (arith, length-take n (drop p l), length-drop p l) in
+    rw (k, append_assoc, ← drop-drop n p l, take-append-drop n (drop p l), take-append-drop p l)
+
+pub before_behind : (l : List ℕ) (a n : ℕ) → 2 + n ≤ length l → set (set l 0 a) 1 space ≡ splice l 0 (a ∷ space ∷ take n (drop 2 l))
+before_behind l a n h = text_behind l l (take n (drop 2 l)) a (omega (arith, length-take n (drop 2 l), length-drop 2 l)) (sym (again l 2 n h))
+
+pub wrote_before : (l l₁ x out' : List ℕ) (a n r : ℕ) → 2 + length x ≤ length l → l₁ ≡ splice l 2 x → n ≡ length x → Wrote (a ∷ space ∷ take n (drop 2 l₁)) l₁ r out'
+    → Wrote (a ∷ space ∷ x) l r out'
+wrote_before l l₁ x out' a n r h i e w =
+    let same : take n (drop 2 l₁) ≡ x = rw (e, i) (read_splice l 2 x (omega arith)) in
+    let long : length l₁ ≡ length l = ap length i ∙ length_splice l 2 x h in
+    record {
+      end = omega (arith, w.end, ap length same);
+      bytes = w.bytes ∙ sym (before_behind l₁ a n (omega arith)) ∙ text_behind l l₁ x a h i;
+    }
 
 pub raw_behind : (l l₁ l₂ x : List ℕ) (n at : ℕ) → after_number + length x ≤ length l → size 10 n ≡ 2 → l₁ ≡ splice l after_number x → Wrote (code "R" ∷ space ∷ decimal n) l₁ at l₂
     → set l₂ at space ≡ splice l 0 (reply_r n x)

@@ -12,7 +12,7 @@ use Rattle.rules.specs.Answers.{refused, taken}
 use Rattle.rules.specs.Conditions.{Rule, First, raw_rules, bank_rules}
 use Rattle.rules.specs.Raw.{raw_text, raw_of_bank}
 use Rattle.rules.specs.Screen.{screen}
-use Rattle.rules.proofs.Answers.{None}
+use Rattle.rules.proofs.Answers.{NoneApplies}
 use Rattle.rules.proofs.BankReads.{bank_reads, raw_reads}
 use Rattle.replies.specs.Replies.{reply_n, reply_r, shown, RefusedWith}
 
@@ -28,20 +28,20 @@ first_between a z (r ∷ rs) n i b p (inr (_, f)) = first_between a z rs n i b.2
 
 module _ (b : List ℕ) where
   -- behind the raw line's rules
-  pub later : (n i : ℕ) → 0 < n → First (bank_rules b) n i → None (raw_rules b) → (11 ≤ n) × (n ≤ 19)
+  pub later : (n i : ℕ) → 0 < n → First (bank_rules b) n i → NoneApplies (raw_rules b) → (11 ≤ n) × (n ≤ 19)
   unfolding raw_rules bank_rules
   later n i p (inl (h, _, _)) none = absurd (none.0 h)
   later n i p (inr (_, inl (h, _, _))) none = absurd (none.1.0 h)
   later n i p (inr (_, inr (_, f))) none = first_between 11 19 (tail (tail (bank_rules b))) n i (omega arith) p f
 
   -- one of them
-  refuted : (m i : ℕ) → 0 < m → First (raw_rules b) m i → None (raw_rules b) → ⊥
+  refuted : (m i : ℕ) → 0 < m → First (raw_rules b) m i → NoneApplies (raw_rules b) → ⊥
   unfolding raw_rules
   refuted m i p (inl (h, _, _)) none = none.0 h
   refuted m i p (inr (_, inl (h, _, _))) none = none.1.0 h
   refuted m i p (inr (_, inr (_, z))) none = omega (arith, z.0)
 
-  earlier : (n i : ℕ) → First (bank_rules b) n i → (None (raw_rules b) → ⊥) → n < 11
+  earlier : (n i : ℕ) → First (bank_rules b) n i → (NoneApplies (raw_rules b) → ⊥) → n < 11
   unfolding raw_rules bank_rules
   earlier n i (inl (_, e, _)) some-rule = omega arith
   earlier n i (inr (_, inl (_, e, _))) some-rule = omega arith

@@ -3,7 +3,7 @@ use Prim.Native.Nat.{ℕ, ◌+◌, ◌-◌, ◌*◌, ◌≤◌, ◌<◌}
 use mathlib.Core.Path.{◌≡◌, refl, ap}
 use mathlib.Core.Logic.{◌⊎◌, inl, inr, ⊎_elim}
 use mathlib.Core.List.{List, [], ◌++◌}
-use mathlib.Core.Option.{none, some}
+use Rattle.std.specs.Prelude.{None, Some}
 use mathlib.Core.Bool.{Bool, true, false, cond}
 use native.Mathlib.Omega.{arith}
 use lib.Dec.{leb, eqb, lit<, lit≤}
@@ -133,7 +133,7 @@ module _ (b : List ℕ) where
 hex_short : (l : List ℕ) → Short (length l) (bank_reply (bank_in l))
 hex_short l = go (is_bank l) refl
   where
-    go : (t : Bool) → is_bank l ≡ t → Short (length l) (bank_reply (cond t (some (bytes_in l)) none))
+    go : (t : Bool) → is_bank l ≡ t → Short (length l) (bank_reply (cond t (Some (bytes_in l)) None))
     go true e =
         let c = read_count l in
         let b = bank_short (bytes_in l) in

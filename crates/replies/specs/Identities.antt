@@ -1,5 +1,5 @@
 -- identity's reply to one line (document 02, C-16): `I`, `T`, `N` or `X`.
-use Rattle.std.specs.Prelude.{ℕ, ◌-◌, List, [], ◌∷◌, ◌++◌, Bool, false, ◌&&◌, cond, leb, eqb, length, drop, get_or}
+use Rattle.std.specs.Prelude.{ℕ, ◌-◌, List, [], ◌∷◌, ◌++◌, Bool, false, ◌&&◌, cond, leb, eqb, length, take, drop, get_or}
 use Prim.Native.Char.{code}
 use Rattle.rules.specs.Answers.{Answer, refused, taken}
 use Rattle.rules.specs.Bytes.{bytes}
@@ -8,6 +8,9 @@ use Rattle.rules.specs.TextNumbers.{after, is_digit, tag_of_text}
 use Rattle.identities.specs.Grammar.{identity_text}
 use Rattle.identities.specs.OfTags.{identity_of}
 use Rattle.identities.specs.Numbers.{tag_of_identity}
+use Rattle.std.specs.Prelude.{Ok, Err}
+use Rattle.scheme.specs.Refusals.{number}
+use Rattle.codec.specs.Answers.{Answer as CodecAnswer}
 use Rattle.digits.specs.Starts.{begun}
 use Rattle.replies.specs.Replies.{space, reply_t, reply_n, reply_x, most_characters}
 
@@ -24,6 +27,11 @@ of_tag (refused n p) = reply_n n
 abbrev pub of_identity : Answer Tag → List ℕ
 of_identity (taken τ) = reply_t (text_of τ)
 of_identity (refused n p) = reply_n n
+
+-- the reply that a letter and a call's answer make: the letter and the text that the call wrote behind its place, or the number
+abbrev pub with_letter : ℕ → CodecAnswer → List ℕ → List ℕ
+with_letter letter (Ok w) out = letter ∷ space ∷ take w.length (drop 2 out)
+with_letter letter (Err e) out = reply_n (number e.rule)
 
 -- one digit, a space, and a text that begins `urn:epc:id:`
 unfoldable pub has_filter : List ℕ → Bool

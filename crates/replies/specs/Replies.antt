@@ -1,7 +1,7 @@
 -- tagline's reply to one line: `B`, `T`, `R`, `N` or `X`.
 use Rattle.std.specs.Prelude.{ℕ, ◌≡◌, List, [], ◌∷◌, ◌++◌, cond, leb, length}
 use Prim.Native.Char.{code}
-use Rattle.std.proofs.Math.Option.{Option, none, some}
+use Rattle.std.specs.Prelude.{Option, None, Some}
 use Rattle.numeral.specs.Numeral.{shortest}
 use Rattle.rules.specs.Answers.{Answer, refused, taken}
 use Rattle.rules.specs.Bytes.{bytes, digits_text, hex_text}
@@ -70,8 +70,8 @@ text_reply l = cond (leb (length l) most_characters) (of_text (tag_of_text l)) r
 
 -- to any other line, by the bank that it holds
 abbrev pub bank_reply : Option (List ℕ) → List ℕ
-bank_reply (some b) = of_bank b (tag_of_bank b)
-bank_reply none = reply_x
+bank_reply (Some b) = of_bank b (tag_of_bank b)
+bank_reply None = reply_x
 
 -- to any line
 unfoldable pub tagline_reply : List ℕ → List ℕ

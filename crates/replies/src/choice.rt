@@ -7,8 +7,8 @@ ghost use Rattle.replies.specs.Replies.{RefusedWith, of_bank, text_reply, bank_r
 ghost use Rattle.replies.specs.Writing.{Wrote, reply_room};
 
 use super::hex;
-use super::letters::{AFTER_LETTER, put_bank, put_neither, put_number};
-use codec::{Answer, BANK_ROOM, TEXT_ROOM};
+use super::letters::{AFTER_LETTER, put_bank, put_letter, put_neither, put_number};
+use codec::{BANK_ROOM, TEXT_ROOM};
 
 // A line that begins `urn:` has at most so many characters.
 pub const MOST_CHARACTERS: usize = 200;
@@ -30,8 +30,8 @@ fn text_reply(line: &[u8], out: &mut [u8]) -> usize
     let mut bank = [0u8; BANK_ROOM];
     // 0: in as few words as the scheme needs (document 02, C-15)
     match codec::text_to_bank(line, 0, &mut bank) {
-        Answer::Written(n, _) => put_bank(&bank[..n], out),
-        Answer::Refused(number, _) => put_number(b'N', number, out),
+        Ok(written) => put_bank(&bank[..written.length], out),
+        Err(refusal) => put_number(b'N', refusal.rule.number(), out),
     }
 }
 
@@ -41,12 +41,12 @@ fn refused_reply(bank: &[u8], number: u8, out: &mut [u8]) -> usize
     ensures { Wrote (of_bank bank.now (tag_of_bank bank.now)) out.old result out.new }
 {
     match codec::raw_line(bank, &mut out[AFTER_NUMBER..]) {
-        Answer::Written(n, _) => {
+        Ok(written) => {
             let end = put_number(b'R', number, out);
             out[end] = b' ';
-            n + AFTER_NUMBER
+            written.length + AFTER_NUMBER
         }
-        Answer::Refused(_, _) => put_number(b'N', number, out),
+        Err(_) => put_number(b'N', number, out),
     }
 }
 
@@ -56,12 +56,8 @@ fn bank_reply(bank: &[u8], out: &mut [u8]) -> usize
     ensures { Wrote (of_bank bank.now (tag_of_bank bank.now)) out.old result out.new }
 {
     match codec::bank_to_text(bank, &mut out[AFTER_LETTER..]) {
-        Answer::Written(n, _) => {
-            out[0] = b'T';
-            out[1] = b' ';
-            n + AFTER_LETTER
-        }
-        Answer::Refused(number, _) => refused_reply(bank, number, out),
+        Ok(written) => put_letter(b'T', written.length, out),
+        Err(refusal) => refused_reply(bank, refusal.rule.number(), out),
     }
 }
 

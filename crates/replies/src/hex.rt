@@ -1,39 +1,19 @@
 // A bank in hex: an even number, at most 128, of upper-case hex digits (document 01).
-ghost use Rattle.std.specs.Prelude.{cond, ◌≡◌, ◌*◌, ◌%◌, ◌≤◌, T, length};
+ghost use Rattle.std.specs.Prelude.{◌≡◌, ◌*◌, ◌%◌, ◌≤◌, T, length};
 ghost use Rattle.numeral.specs.Numeral.{splice};
 ghost use Rattle.rules.specs.Bytes.{all};
-ghost use Rattle.digits.specs.Digits.{hex_value};
-ghost use Rattle.replies.specs.Hex.{is_hex, is_letter, bytes_in, is_bank};
+ghost use Rattle.digits.specs.Digits.{hex_place};
+ghost use Rattle.replies.specs.Hex.{is_hex, bytes_in, is_bank};
 
 // A line has at most so many digits.
 const MOST_DIGITS: usize = 128;
 
-// 0 for one of the letters A to F, 1 for any other byte.
-fn not_letter(c: u8) -> u8
-    ensures { result ≡ cond (is_letter c) 0 1 }
+// Whether c is an upper-case hex digit.
+#[tactic(auto, using(crate::proofs::Hexes::hex_is))]
+fn is_hex(c: u8) -> bool
+    ensures { result ≡ is_hex c }
 {
-    if b'A' <= c && c <= b'F' { 0 } else { 1 }
-}
-
-// 0 for an upper-case hex digit, 1 for any other byte. The product needs no branch.
-fn not_hex(c: u8) -> u8
-    ensures { result ≡ cond (is_hex c) 0 1 }
-{
-    digits::not_digit(c) * not_letter(c)
-}
-
-// Whether all bytes are hex digits. The loop does not end early, so that the machine can look at many bytes at once.
-fn all_hex(line: &[u8]) -> bool
-    ensures { result ≡ all is_hex line.now }
-{
-    let mut wrong: u8 = 0;
-    for i in 0..line.len() {
-        let w = not_hex(line[i]);
-        if wrong < w {
-            wrong = w;
-        }
-    }
-    wrong == 0
+    digits::hex_value(c).is_some()
 }
 
 // Whether a line is a bank in hex.
@@ -46,14 +26,14 @@ pub fn is_bank(line: &[u8]) -> bool
     if line.len() % 2 != 0 {
         return false;
     }
-    all_hex(line)
+    digits::all(line, is_hex)
 }
 
-// The value of a hex digit, which all_hex has found to be one. A digit's lower four bits are its value; a letter's are 9 less, and only
+// The value of a hex digit, which is_bank has found to be one. A digit's lower four bits are its value; a letter's are 9 less, and only
 // letters are 64 or more.
 fn value(c: u8) -> u8
     requires { T (is_hex c) }
-    ensures { result ≡ hex_value c }
+    ensures { result ≡ hex_place c }
 {
     c % 16 + 9 * (c / 64)
 }
@@ -64,6 +44,7 @@ pub fn read(line: &[u8], bank: &mut [u8])
     ensures { bank.new ≡ splice bank.old 0 (bytes_in line.now) }
 {
     let n = line.len() / 2;
+    // by index: behind `iter_mut().zip(..)` a proof knows nothing of the elements
     for i in 0..n {
         bank[i] = 16 * value(line[2 * i]) + value(line[2 * i + 1]);
     }

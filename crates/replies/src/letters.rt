@@ -1,5 +1,5 @@
 // The replies, by their letters. Each function writes one at the output's start and answers its length.
-ghost use Rattle.std.specs.Prelude.{◌∷◌, ◌+◌, ◌*◌, ◌≤◌, length};
+ghost use Rattle.std.specs.Prelude.{◌∷◌, ◌+◌, ◌*◌, ◌≤◌, length, take, drop};
 ghost use Rattle.replies.specs.Replies.{space, decimal, reply_b, reply_x};
 ghost use Rattle.replies.specs.Writing.{Wrote};
 
@@ -13,6 +13,16 @@ pub fn put_neither(out: &mut [u8]) -> usize
 {
     out[0] = b'X';
     1
+}
+
+// A letter and a space, before the n bytes that stand behind their place already.
+pub fn put_letter(letter: u8, n: usize, out: &mut [u8]) -> usize
+    requires { 2 + n ≤ length out.old }
+    ensures { Wrote (letter ∷ space ∷ take n (drop 2 out.old)) out.old result out.new }
+{
+    out[0] = letter;
+    out[1] = b' ';
+    AFTER_LETTER + n
 }
 
 // `B` and the bank in hex.

@@ -12,7 +12,8 @@ ghost use Rattle.replies.specs.Writing.{Wrote, reply_room};
 
 pub use choice::{MOST_CHARACTERS, REPLY_ROOM};
 
-// Whose reply is meant.
+// Whose reply is meant. An enum, and not a trait with two types: there are these two and no others, and the theorems (`in_pieces` of lines)
+// are of any program as a value.
 #[derive(Clone, Copy)]
 pub enum Program {
     Tagline,

@@ -4,7 +4,7 @@ use mathlib.Core.Path.{◌≡◌, refl, sym, ◌∙◌}
 use mathlib.Core.Logic.Iff
 use mathlib.Core.Logic.{inl, inr, ◌↔◌}
 use mathlib.Core.List.{List, [], ◌∷◌, ◌++◌}
-use mathlib.Core.Option.{Option, none, some}
+use Rattle.std.specs.Prelude.{Option, None, Some}
 use mathlib.Core.Bool.{Bool, true, false, not}
 use native.Mathlib.Omega.{arith}
 use lib.Dec.{T}
@@ -13,18 +13,18 @@ use Rattle.rules.specs.Conditions.{Rule, rule, First}
 
 -- what a reader gives, if anything
 abbrev pub Gives : {X : Type 0} → (X → Type 0) → Option X → Type 0
-Gives Right none = Unit
-Gives Right (some x) = Right x
+Gives Right None = Unit
+Gives Right (Some x) = Right x
 
 -- a reader gives nothing exactly where P holds
 abbrev pub Decides : {X : Type 0} → Type 0 → (X → Type 0) → Option X → Type 0
-Decides P Right none = P
-Decides P Right (some x) = (¬ P) × Right x
+Decides P Right None = P
+Decides P Right (Some x) = (¬ P) × Right x
 
 -- a reader that gives what is right, and gives something where W holds, decides W
-pub decided : {X : Type 0} (W : Type 0) (R : X → Type 0) (o : Option X) → Gives R o → ((x : X) → R x → W) → (W → (x : X) × (o ≡ some x)) → Decides (¬ W) R o
-decided W R none g f k = λ w. let z : ◌≡◌ {A = ℕ} 0 1 = cc (k w).1 in omega arith
-decided W R (some x) g f k = (λ not-W. not-W (f x g), g)
+pub decided : {X : Type 0} (W : Type 0) (R : X → Type 0) (o : Option X) → Gives R o → ((x : X) → R x → W) → (W → (x : X) × (o ≡ Some x)) → Decides (¬ W) R o
+decided W R None g f k = λ w. let z : ◌≡◌ {A = ℕ} 0 1 = cc (k w).1 in omega arith
+decided W R (Some x) g f k = (λ not-W. not-W (f x g), g)
 
 -- an answer is the refusal n, at such a place, exactly where P holds
 abbrev pub Settled : {X : Type 0} → ℕ → Type 0 → (ℕ → Type 0) → (X → Type 0) → Answer X → Type 0
@@ -32,18 +32,18 @@ Settled n P Place Right (refused m p) = (m ≡ n) × Place p × P
 Settled n P Place Right (taken x) = (¬ P) × Right x
 
 -- none of the rules applies
-abbrev pub None : List Rule → Type 0
-None [] = Unit
-None (r ∷ rs) = (¬ r.applies) × None rs
+abbrev pub NoneApplies : List Rule → Type 0
+NoneApplies [] = Unit
+NoneApplies (r ∷ rs) = (¬ r.applies) × NoneApplies rs
 
 -- an answer is the first of the rules that applies; where none does, what is taken is right
 abbrev pub Reads : {X : Type 0} → List Rule → (X → Type 0) → Answer X → Type 0
 Reads rs Right (refused n p) = First rs n p × (0 < n)
-Reads rs Right (taken x) = None rs × Right x
+Reads rs Right (taken x) = NoneApplies rs × Right x
 
 pub settled_given : {X : Type 0} (n p : ℕ) (P : Type 0) (Right : X → Type 0) (o : Option X) → Decides P Right o → Settled n P (◌≡ p) Right (given o n p)
-settled_given n p P Right none h = (refl, refl, h)
-settled_given n p P Right (some x) h = h
+settled_given n p P Right None h = (refl, refl, h)
+settled_given n p P Right (Some x) h = h
 
 pub settled_at : (n p : ℕ) (P : Type 0) (Place : ℕ → Type 0) (b : Bool) → (T (not b) → P × Place p) → (T b → ¬ P) → Settled n P Place (λ _. T b) (demand b n p)
 settled_at n p P Place true h k = (k tt, tt)
@@ -92,11 +92,11 @@ first_left [] qs n p z h = absurd (omega (arith, h.0))
 first_left (r ∷ rs) qs n p z (inl h) = inl h
 first_left (r ∷ rs) qs n p z (inr h) = inr (h.0, first_left rs qs n p z h.1)
 
-first_right : (rs qs : List Rule) (n p : ℕ) → None rs → First qs n p → First (rs ++ qs) n p
+first_right : (rs qs : List Rule) (n p : ℕ) → NoneApplies rs → First qs n p → First (rs ++ qs) n p
 first_right [] qs n p h k = k
 first_right (r ∷ rs) qs n p h k = inr (h.0, first_right rs qs n p h.1 k)
 
-none_both : (rs qs : List Rule) → None rs → None qs → None (rs ++ qs)
+none_both : (rs qs : List Rule) → NoneApplies rs → NoneApplies qs → NoneApplies (rs ++ qs)
 none_both [] qs h k = k
 none_both (r ∷ rs) qs h k = (h.0, none_both rs qs h.1 k)
 
@@ -128,7 +128,7 @@ first_covers (same e i f c) n p (inl k) = inl (i.0 k.0, k.1 ∙ e, f p k.2)
 first_covers (same e i f c) n p (inr k) = inr (λ q. k.0 (i.1 q), first_covers c n p k.1)
 first_covers (extra x c) n p k = inr (x, first_covers c n p k)
 
-none_covers : {rs qs : List Rule} → Covers rs qs → None rs → None qs
+none_covers : {rs qs : List Rule} → Covers rs qs → NoneApplies rs → NoneApplies qs
 none_covers done k = k
 none_covers (same e i f c) k = (λ q. k.0 (i.1 q), none_covers c k.1)
 none_covers (extra x c) k = (x, none_covers c k)
@@ -149,7 +149,7 @@ one_first (r ∷ rs) o n p m q (inl h) (inr k) = absurd (k.0 h.0)
 one_first (r ∷ rs) o n p m q (inr h) (inl k) = absurd (h.0 k.0)
 one_first (r ∷ rs) o n p m q (inr h) (inr k) = one_first rs o.1 n p m q h.1 k.1
 
-none_first : (rs : List Rule) → None rs → First rs 0 0
+none_first : (rs : List Rule) → NoneApplies rs → First rs 0 0
 none_first [] h = (refl, refl)
 none_first (r ∷ rs) h = inr (h.0, none_first rs h.1)
 

@@ -4,7 +4,7 @@ use mathlib.Core.Path.{◌≡◌, refl, sym, ◌∙◌, ap}
 use mathlib.Core.Logic.Iff
 use mathlib.Core.Logic.{◌↔◌}
 use mathlib.Core.List.{List, [], ◌∷◌, ◌++◌}
-use mathlib.Core.Option.{Option, some}
+use Rattle.std.specs.Prelude.{Option, Some}
 use mathlib.Core.Bool.{Bool, true, false, not, cond}
 use native.Mathlib.Omega.{arith}
 use native.Mathlib.Nat.{le_trans, pow-le-pow_right}
@@ -120,7 +120,7 @@ headed_is : (x h : ℕ) → x ≡ h → (ss : List Scheme) → Gives (λ s. x �
 headed_is x h e [] = tt
 headed_is x h e (s ∷ ss) = go (eqb h (about s).header) (eqb→eq h (about s).header) (headed h ss) (headed_is x h e ss)
   where
-    go : (t : Bool) → (T t → h ≡ (about s).header) → (o : Option Scheme) → Gives (λ s. x ≡ (about s).header) o → Gives (λ s. x ≡ (about s).header) (cond t (some s) o)
+    go : (t : Bool) → (T t → h ≡ (about s).header) → (o : Option Scheme) → Gives (λ s. x ≡ (about s).header) o → Gives (λ s. x ≡ (about s).header) (cond t (Some s) o)
     go true f o i = e ∙ f tt
     go false f o i = i
 

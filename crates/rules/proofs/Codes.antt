@@ -2,7 +2,7 @@
 use Prim.Native.Nat.{ℕ, ◌+◌, ◌-◌, ◌*◌, ◌/◌, ◌^◌, ◌≤◌, ◌<◌}
 use mathlib.Core.Path.{◌≡◌, refl, ◌∙◌}
 use mathlib.Core.List.{List, ◌++◌, append_assoc}
-use mathlib.Core.Option.{some}
+use Rattle.std.specs.Prelude.{Some}
 use native.Mathlib.Omega.{arith}
 use lib.Dec.{leb, leb→le}
 use lib.ListN.{length, length-append}
@@ -54,7 +54,7 @@ pub record Sizes (s : Scheme) : Type 0 where
   pub few_words : words s < 2 ^ 5
   pub byte : (about s).header < 2 ^ 8
 
-sound : (s : Scheme) → (headed (about s).header schemes ≡ some s) × Sizes s
+sound : (s : Scheme) → (headed (about s).header schemes ≡ Some s) × Sizes s
 unfolding schemes rows
 sound Sgtin96 = (refl, omega arith)
 sound Sgtin198 = (refl, omega arith)
@@ -73,7 +73,7 @@ sound Gdti113 = (refl, omega arith)
 sound Sgcn96 = (refl, omega arith)
 sound Cpi96 = (refl, omega arith)
 
-pub headed_of : (s : Scheme) → headed (about s).header schemes ≡ some s
+pub headed_of : (s : Scheme) → headed (about s).header schemes ≡ Some s
 headed_of s = (sound s).0
 
 pub sizes : (s : Scheme) → Sizes s

@@ -3,7 +3,7 @@ use Prim.Native.Nat.{ℕ, zero, suc, ◌+◌, ◌≤◌, ◌<◌}
 use mathlib.Core.Path.{◌≡◌, refl, sym, ◌∙◌, ap}
 use mathlib.Core.Logic.{◌⊎◌, inl, inr, ⊎_elim}
 use mathlib.Core.List.{List, [], ◌∷◌, ◌++◌, append_assoc}
-use mathlib.Core.Option.{Option, none, some}
+use Rattle.std.specs.Prelude.{Option, None, Some}
 use mathlib.Core.Bool.{Bool, true, false, cond}
 use native.Mathlib.Omega.{arith}
 use lib.ListN.{length, length-append, length-drop}
@@ -30,15 +30,15 @@ has_field : (f : ControlName) (n : ℕ) (w : List ℕ) → Has f n w ⊎ (¬ (Ha
 has_field f zero w = go (after (field_text f 0) w) (after_decides (field_text f 0) w)
   where
     go : (o : Option (List ℕ)) → Decides (¬ (Begun (field_text f 0) w)) (λ x. w ≡ field_text f 0 ++ x) o → Has f 0 w ⊎ (¬ (Has f 0 w))
-    go none d = inr λ h. let e : h.0 ≡ 0 = omega (arith, h.1) in d (h.2, rw e at h.3)
-    go (some x) d = inl (0, omega arith, x, d.1)
+    go None d = inr λ h. let e : h.0 ≡ 0 = omega (arith, h.1) in d (h.2, rw e at h.3)
+    go (Some x) d = inl (0, omega arith, x, d.1)
 has_field f (suc n) w = go (after (field_text f (suc n)) w) (after_decides (field_text f (suc n)) w) (has_field f n w)
   where
     go : (o : Option (List ℕ)) → Decides (¬ (Begun (field_text f (suc n)) w)) (λ x. w ≡ field_text f (suc n) ++ x) o → Has f n w ⊎ (¬ (Has f n w))
         → Has f (suc n) w ⊎ (¬ (Has f (suc n) w))
-    go (some x) d i = inl (suc n, omega arith, x, d.1)
-    go none d (inl h) = inl (h.0, omega (arith, h.1), h.2, h.3)
-    go none d (inr k) =
+    go (Some x) d i = inl (suc n, omega arith, x, d.1)
+    go None d (inl h) = inl (h.0, omega (arith, h.1), h.2, h.3)
+    go None d (inr k) =
         inr λ h.
         ⊎_elim (λ (l : h.0 < suc n). k (h.0, omega arith, h.2, h.3)) (λ (l : suc n ≤ h.0). let e : h.0 ≡ suc n = omega (arith, h.1) in d (h.2, rw e at h.3))
         (lt_or_ge h.0 (suc n))
@@ -167,8 +167,8 @@ module _ (t u : List ℕ) (e : t ≡ start ++ u) where
     where
       colons : Starts bracket u → (o : Option (List ℕ)) → after (colon ∷ []) (behind_both u) ≡ o → Decides (¬ (Begun (colon ∷ []) (behind_both u))) (λ v. behind_both u ≡ colon ∷ v) o
           → Settled 20 ((p : ℕ) × FaultAt t p) (FaultAt t) ControlIs (given o 20 fields_end >>= λ v. taken (fielded v))
-      colons s none q d = let f = fault_at s d in (refl, f, (fields_end, f))
-      colons s (some v) q d = (no_fault (fielded v) (opened (length start) u s ∙ rw q), closed_fields v s d.1)
+      colons s None q d = let f = fault_at s d in (refl, f, (fields_end, f))
+      colons s (Some v) q d = (no_fault (fielded v) (opened (length start) u s ∙ rw q), closed_fields v s d.1)
 
       brackets : (b : Bool) → opens u ≡ b → Settled 20 ((p : ℕ) × FaultAt t p) (FaultAt t) ControlIs (cond b (bracketed (length start) u) (taken unfielded))
       brackets true q = colons (opens_is u q) (after (colon ∷ []) (behind_both u)) refl (after_decides (colon ∷ []) (behind_both u))

@@ -3,7 +3,7 @@ use Prim.Native.Nat.{ℕ, zero, suc, ◌+◌, ◌<◌}
 use mathlib.Core.Path.{◌≡◌, refl, sym, ◌∙◌, ap}
 use mathlib.Core.Logic.{◌⊎◌, inl, inr}
 use mathlib.Core.List.{List, [], ◌∷◌, ◌++◌, append_assoc}
-use mathlib.Core.Option.{Option, none, some}
+use Rattle.std.specs.Prelude.{Option, None, Some}
 use mathlib.Core.Bool.{Bool, true, false, cond}
 use native.Mathlib.Omega.{arith}
 use native.Mathlib.Nat.{add-zero}
@@ -41,12 +41,12 @@ opens_not u h = go (opens u) refl
 pub not_opens : (u : List ℕ) → opens u ≡ false → ¬ (Starts bracket u)
 not_opens u e s = true_false (sym (opens_of u s) ∙ e)
 
-no_colon : (w : List ℕ) → ¬ (Starts colon w) → after (colon ∷ []) w ≡ none
+no_colon : (w : List ℕ) → ¬ (Starts colon w) → after (colon ∷ []) w ≡ None
 no_colon w h = go (after (colon ∷ []) w) (after_decides (colon ∷ []) w)
   where
-    go : (o : Option (List ℕ)) → Decides (¬ (Begun (colon ∷ []) w)) (λ u. w ≡ colon ∷ u) o → o ≡ none
-    go none d = refl
-    go (some r) d = absurd (h (r, d.1))
+    go : (o : Option (List ℕ)) → Decides (¬ (Begun (colon ∷ []) w)) (λ u. w ≡ colon ∷ u) o → o ≡ None
+    go None d = refl
+    go (Some r) d = absurd (h (r, d.1))
 
 -- no field that would be right stands at w, behind the fields of c
 abbrev NoneRight : ControlFields → List ℕ → Type 0

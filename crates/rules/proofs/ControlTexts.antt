@@ -3,7 +3,7 @@ use Prim.Native.Nat.{ℕ, zero, suc, ◌/◌, ◌%◌, ◌≤◌, ◌<◌}
 use mathlib.Core.Path.{◌≡◌, refl, sym, ◌∙◌, ap}
 use mathlib.Core.Logic.{⊎_elim}
 use mathlib.Core.List.{List, ◌++◌}
-use mathlib.Core.Option.{Option, none, some}
+use Rattle.std.specs.Prelude.{Option, None, Some}
 use native.Mathlib.Omega.{arith}
 use lib.Dec.{eqb, eqb→eq}
 use lib.ListN.{length, get_or, drop}
@@ -47,8 +47,8 @@ valued_is f (suc n) u = go (after (field_text f (suc n)) u) (after_is (field_tex
   where
     go : (o : Option (List ℕ)) → Gives (λ r. u ≡ field_text f (suc n) ++ r) o → (q : Valued) → (q.value ≤ n) × (u ≡ standing f q.value ++ q.rest)
         → ((either (suc n) o q).value ≤ suc n) × (u ≡ standing f (either (suc n) o q).value ++ (either (suc n) o q).rest)
-    go none h q i = (omega (arith, i.0), i.1)
-    go (some r) h q i = (omega arith, h)
+    go None h q i = (omega (arith, i.0), i.1)
+    go (Some r) h q i = (omega arith, h)
 
 -- no field of a value from 1 to n stands at u
 abbrev pub NoneUpTo : ControlName → ℕ → List ℕ → Type 0
@@ -60,8 +60,8 @@ valued_none f (suc n) u h = go (after (field_text f (suc n)) u) (after_is (field
   where
     go : (o : Option (List ℕ)) → Gives (λ r. u ≡ field_text f (suc n) ++ r) o → valued f n u ≡ record { value = 0; rest = u }
         → either (suc n) o (valued f n u) ≡ record { value = 0; rest = u }
-    go none g i = i
-    go (some r) g i = absurd (h (suc n) r (omega arith) (omega arith) g)
+    go None g i = i
+    go (Some r) g i = absurd (h (suc n) r (omega arith) (omega arith) g)
 
 pub valued_of : (f : ControlName) (n v : ℕ) (x : List ℕ) → 0 < v → v ≤ n → n ≤ most f → valued f n (field_text f v ++ x) ≡ record { value = v; rest = x }
 valued_of f zero v x z l m = absurd (omega arith)
@@ -75,8 +75,8 @@ valued_of f (suc n) v x z l m =
 
     go : (o : Option (List ℕ)) → Gives (λ r. field_text f v ++ x ≡ field_text f (suc n) ++ r) o → v < suc n → valued f n (field_text f v ++ x) ≡ record { value = v; rest = x }
         → either (suc n) o (valued f n (field_text f v ++ x)) ≡ record { value = v; rest = x }
-    go none g k i = i
-    go (some r) g k i = absurd (omega (arith, (one_field f v (suc n) x r (omega arith) m g).0))
+    go None g k i = i
+    go (Some r) g k i = absurd (omega (arith, (one_field f v (suc n) x r (omega arith) m g).0))
 
 -- the same of the field that may stand, whatever its largest value
 standing_of : (f : ControlName) (n v : ℕ) (w : List ℕ) → v ≤ n → n ≤ most f → (v ≡ 0 → NoneUpTo f n w) → valued f n (standing f v ++ w) ≡ record { value = v; rest = w }

@@ -3,7 +3,7 @@ use Prim.Native.Nat.{ℕ, ◌+◌, ◌-◌}
 use Prim.Native.Char.{code}
 use mathlib.Core.Path.{◌≡◌, refl, ap₂}
 use mathlib.Core.List.{List, [], ◌∷◌}
-use mathlib.Core.Option.{Option, none, some, map}
+use Rattle.std.specs.Prelude.{Option, None, Some, option_map}
 use mathlib.Core.Bool.{Bool, true, false, not, cond}
 use native.Mathlib.Omega.{arith}
 use lib.Dec.{T, leb, eqb, leb→le, ltb→lt, le→leb, lt→ltb, eqb→eq, not_T}
@@ -29,10 +29,10 @@ digits_is [] = (tt, refl)
 digits_is (x ∷ xs) = go (is_digit x) (both (leb (code "0") x) (leb x (code "9"))) (digits_in xs) (digits_is xs)
   where
     go : (b : Bool) → (T b → T (leb (code "0") x) × T (leb x (code "9"))) → (o : Option (List ℕ)) → Gives (λ ds. T (all digit ds) × (xs ≡ digits_text ds)) o
-        → Gives (λ ds. T (all digit ds) × (x ∷ xs ≡ digits_text ds)) (cond b (map ((x - code "0") ∷◌) o) none)
+        → Gives (λ ds. T (all digit ds) × (x ∷ xs ≡ digits_text ds)) (cond b (option_map ((x - code "0") ∷◌) o) None)
     go false e o h = tt
-    go true e none h = tt
-    go true e (some ds) h =
+    go true e None h = tt
+    go true e (Some ds) h =
         let l = leb→le (code "0") x (e tt).0 in
         let u = leb→le x (code "9") (e tt).1 in
         (and (digit (x - code "0")) (all digit ds) (lt→ltb (x - code "0") 10 (omega arith)) h.0, ap₂ ◌∷◌ (omega arith) h.1)
@@ -43,7 +43,7 @@ character_is d h =
     let u = ltb→lt d 10 h in
     (and (leb (code "0") (code "0" + d)) (leb (code "0" + d) (code "9")) (le→leb (code "0") (code "0" + d) (omega arith)) (le→leb (code "0" + d) (code "9") (omega arith)), omega arith)
 
-pub digits_of_lem : (ds : List ℕ) → T (all digit ds) → digits_in (digits_text ds) ≡ some ds
+pub digits_of_lem : (ds : List ℕ) → T (all digit ds) → digits_in (digits_text ds) ≡ Some ds
 digits_of_lem [] h = refl
 digits_of_lem (d ∷ ds) h =
     let (a, b) = both (digit d) (all digit ds) h in

@@ -2,7 +2,7 @@
 use Prim.Native.Nat.{ℕ, zero, suc, ◌/◌, ◌^◌}
 use mathlib.Core.Path.{◌≡◌, refl}
 use mathlib.Core.List.{List, [], ◌∷◌}
-use mathlib.Core.Option.{Option, none, some}
+use Rattle.std.specs.Prelude.{Option, None, Some}
 use mathlib.Core.Bool.{Bool, true, false, not, cond}
 use native.Mathlib.Omega.{arith}
 use lib.Dec.{T, leb, leb→le, ltb→lt, le→leb, lt→ltb, nleb→lt, nltb→le, eqb→eq, eqb_refl}
@@ -33,7 +33,7 @@ symbols_is (string b) x = characters_is x
 symbols_is (at_most b n) x = digits_is x
 symbols_is (numeric b n) x = digits_is x
 
-symbols_of : (f : Form) (p : List ℕ) → T (all (symbol f) p) → symbols_in f (spelled f p) ≡ some p
+symbols_of : (f : Form) (p : List ℕ) → T (all (symbol f) p) → symbols_in f (spelled f p) ≡ Some p
 symbols_of company p h = digits_of_lem p h
 symbols_of (digits b n) p h = digits_of_lem p h
 symbols_of (integer b) p h = digits_of_lem p h
@@ -41,7 +41,7 @@ symbols_of (string b) p h = characters_of_lem p h
 symbols_of (at_most b n) p h = digits_of_lem p h
 symbols_of (numeric b n) p h = digits_of_lem p h
 
-symbols_at : (f : Form) (x p : List ℕ) → Symbols f x p → symbols_in f x ≡ some p
+symbols_at : (f : Form) (x p : List ℕ) → Symbols f x p → symbols_in f x ≡ Some p
 symbols_at f x p s = rw s.1 (symbols_of f p s.0)
 
 -- a text is one list of symbols only
@@ -87,25 +87,25 @@ formed_is (at_most b n) x r =
     (r.0, decimal_is x r.0 r.1, and (plain_number r.0) (leb (length r.0) n) (whole_is r.2) (le→leb (length r.0) n r.3))
 formed_is (numeric b n) x r = (r.0, decimal_is x r.0 r.1, lt→ltb 0 (length r.0) r.2)
 
-pub formed_at : (f : Form) (p : List ℕ) → T (all (symbol f) p) → T (shaped f p) → formed f (spelled f p) ≡ some p
+pub formed_at : (f : Form) (p : List ℕ) → T (all (symbol f) p) → T (shaped f p) → formed f (spelled f p) ≡ Some p
 formed_at f p s h = rw (symbols_of f p s, is_true (shaped f p) h)
 
 -- what is formed, and its size
 pub formed_decides : (f : Form) (x : List ℕ) → Decides (¬ (Formed f x)) (λ p. Symbols f x p × T (shaped f p)) (formed f x)
 formed_decides f x = go (symbols_in f x) refl (symbols_is f x)
   where
-    shape : (p : List ℕ) → Symbols f x p → (b : Bool) → shaped f p ≡ b → Decides (¬ (Formed f x)) (λ p. Symbols f x p × T (shaped f p)) (cond b (some p) none)
+    shape : (p : List ℕ) → Symbols f x p → (b : Bool) → shaped f p ≡ b → Decides (¬ (Formed f x)) (λ p. Symbols f x p × T (shaped f p)) (cond b (Some p) None)
     shape p s true e = (λ not_formed. not_formed (formed_of f x p s (rw e tt)), (s, rw e tt))
     shape p s false e = λ r.
         let (q, u, h) = formed_is f x r in
         rw (one_reading f x q p u s, e) at h
 
     go : (o : Option (List ℕ)) → symbols_in f x ≡ o → Gives (Symbols f x) o → Decides (¬ (Formed f x)) (λ p. Symbols f x p × T (shaped f p)) (kept (shaped f) o)
-    go none e g = λ r.
+    go None e g = λ r.
         let (p, s, h) = formed_is f x r in
         let z : ◌≡◌ {A = ℕ} 0 1 = cc (symbols_at f x p s) in
         omega arith
-    go (some p) e s = shape p s (shaped f p) refl
+    go (Some p) e s = shape p s (shaped f p) refl
 
 pub large_of : (f : Form) (x p : List ℕ) → Symbols f x p → T (not (sized f p)) → TooLarge f x
 large_of company x p s h = h

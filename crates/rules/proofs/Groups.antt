@@ -3,7 +3,7 @@ use Prim.Native.Nat.{ℕ, zero, suc, ◌+◌, ◌-◌, ◌≤◌, ◌<◌}
 use mathlib.Core.Path.{◌≡◌, refl, ◌∙◌, ap, ap₂}
 use mathlib.Core.Logic.{inl, inr, ⊎_elim}
 use mathlib.Core.List.{List, [], ◌∷◌, ◌++◌}
-use mathlib.Core.Option.{Option, none, some, map}
+use Rattle.std.specs.Prelude.{Option, None, Some, option_map}
 use mathlib.Core.Bool.{Bool, true, false, ◌&&◌, not, cond}
 use native.Mathlib.Omega.{arith}
 use lib.Dec.{T, ltb, eqb, ltb→lt, lt→ltb, eqb→eq, T_not}
@@ -31,23 +31,23 @@ zeros_is (x ∷ xs) h = let (a, b) = both (eqb x 0) (all_zero xs) h in ap₂ ◌
 
 -- The groups before the first zero: only zeros follow, or a nonzero group stands after a zero.
 abbrev LeadingIs : List ℕ → Option (List ℕ) → Type 0
-LeadingIs gs none = (i : ℕ) × (j : ℕ) × (i < j) × (j < length gs) × (get_or gs i 0 ≡ 0) × (¬ (get_or gs j 0 ≡ 0))
-LeadingIs gs (some cs) = (z : ℕ) × (gs ≡ cs ++ replicate z 0) × T (all nonzero cs)
+LeadingIs gs None = (i : ℕ) × (j : ℕ) × (i < j) × (j < length gs) × (get_or gs i 0 ≡ 0) × (¬ (get_or gs j 0 ≡ 0))
+LeadingIs gs (Some cs) = (z : ℕ) × (gs ≡ cs ++ replicate z 0) × T (all nonzero cs)
 
 leading_is : (gs : List ℕ) → LeadingIs gs (leading gs)
 leading_is [] = (0, refl, tt)
 leading_is (g ∷ gs) = go (eqb g 0) refl (all_zero gs) refl (leading gs) (leading_is gs)
   where
     go : (a : Bool) → eqb g 0 ≡ a → (b : Bool) → all_zero gs ≡ b → (o : Option (List ℕ)) → LeadingIs gs o
-        → LeadingIs (g ∷ gs) (cond a (cond b (some []) none) (map (g ∷◌) o))
+        → LeadingIs (g ∷ gs) (cond a (cond b (Some []) None) (option_map (g ∷◌) o))
     go true e true f o i = (suc (length gs), ap₂ ◌∷◌ (eqb→eq g 0 (rw e tt)) (zeros_is gs (rw f tt)), tt)
     go true e false f o i =
         let (j, l, h) = not_all (λ x. eqb x 0) gs (rw f tt) in
         (0, suc j, omega arith, omega arith, eqb→eq g 0 (rw e tt), apart (get_or gs j 0) 0 h)
-    go false e b f none i = (suc i.0, suc i.1, omega arith, omega arith, i.4, i.5)
-    go false e b f (some cs) i = (i.0, ap (g ∷◌) i.1, and (nonzero g) (all nonzero cs) (rw e tt) i.2)
+    go false e b f None i = (suc i.0, suc i.1, omega arith, omega arith, i.4, i.5)
+    go false e b f (Some cs) i = (i.0, ap (g ∷◌) i.1, and (nonzero g) (all nonzero cs) (rw e tt) i.2)
 
-pub leading_of : (cs : List ℕ) (k : ℕ) → T (all nonzero cs) → leading (cs ++ replicate k 0) ≡ some cs
+pub leading_of : (cs : List ℕ) (k : ℕ) → T (all nonzero cs) → leading (cs ++ replicate k 0) ≡ Some cs
 leading_of [] zero h = refl
 leading_of [] (suc k) h = rw (is_true (all_zero (replicate k 0)) (zeros_of k))
 leading_of (c ∷ cs) k h =
@@ -97,15 +97,15 @@ module _ (gs cs : List ℕ) (z : ℕ) (e : gs ≡ cs ++ replicate z 0) (n : T (a
 pub string_decides : (gs : List ℕ) → Decides (WrongGroups (length gs) λ i. get_or gs i 0) (StringIs gs) (string_in gs)
 string_decides gs = go (leading gs) (leading_is gs)
   where
-    judge : (cs : List ℕ) → LeadingIs gs (some cs) → (b : Bool) → (ltb 0 (length cs) && all character cs) ≡ b → Decides (WrongGroups (length gs) λ i. get_or gs i 0) (StringIs gs) (cond b (some cs) none)
+    judge : (cs : List ℕ) → LeadingIs gs (Some cs) → (b : Bool) → (ltb 0 (length cs) && all character cs) ≡ b → Decides (WrongGroups (length gs) λ i. get_or gs i 0) (StringIs gs) (cond b (Some cs) None)
     judge cs i true e =
         let (a, b) = both (ltb 0 (length cs)) (all character cs) (rw e tt) in
         (right_groups gs cs i.0 i.1 i.2 a b, (i.0, i.1, a, b))
     judge cs i false e = wrong_groups gs cs i.0 i.1 i.2 (rw e tt)
 
     go : (o : Option (List ℕ)) → LeadingIs gs o → Decides (WrongGroups (length gs) λ i. get_or gs i 0) (StringIs gs) (kept (λ cs. ltb 0 (length cs) && all character cs) o)
-    go none i = inr (inl i)
-    go (some cs) i = judge cs i (ltb 0 (length cs) && all character cs) refl
+    go None i = inr (inl i)
+    go (Some cs) i = judge cs i (ltb 0 (length cs) && all character cs) refl
 
-pub string_of_lem : (cs : List ℕ) (z : ℕ) → T (all nonzero cs) → T (ltb 0 (length cs)) → T (all character cs) → string_in (cs ++ replicate z 0) ≡ some cs
+pub string_of_lem : (cs : List ℕ) (z : ℕ) → T (all nonzero cs) → T (ltb 0 (length cs)) → T (all character cs) → string_in (cs ++ replicate z 0) ≡ Some cs
 string_of_lem cs z n s h = rw (leading_of cs z n, is_true (ltb 0 (length cs) && all character cs) (and (ltb 0 (length cs)) (all character cs) s h))

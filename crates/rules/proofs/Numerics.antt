@@ -3,7 +3,7 @@ use Prim.Native.Nat.{ℕ, suc, ◌*◌, ◌-◌, ◌+◌, ◌^◌, ◌≤◌, �
 use mathlib.Core.Path.{◌≡◌, refl, sym, ◌∙◌, ap}
 use mathlib.Core.Logic.{◌↔◌, ⊎_elim}
 use mathlib.Core.List.{List, [], ◌∷◌}
-use mathlib.Core.Option.{none, some}
+use Rattle.std.specs.Prelude.{None, Some}
 use mathlib.Core.Bool.{Bool, true, false, ◌&&◌, cond}
 use native.Mathlib.Omega.{arith}
 use native.Mathlib.Nat.{pow-le-pow_right, pow-suc}
@@ -52,7 +52,7 @@ numeric_fits b n ds h l r =
 abbrev counts : ℕ → List ℕ → Bool
 counts n ds = ltb 0 (length ds) && leb (length ds) n
 
-pub numeric_of_lem : (n : ℕ) (ds : List ℕ) → Digits 10 ds → T (ltb 0 (length ds)) → T (leb (length ds) n) → numeric_in n (shortest 10 (value 10 (1 ∷ ds))) ≡ some ds
+pub numeric_of_lem : (n : ℕ) (ds : List ℕ) → Digits 10 ds → T (ltb 0 (length ds)) → T (leb (length ds) n) → numeric_in n (shortest 10 (value 10 (1 ∷ ds))) ≡ Some ds
 numeric_of_lem n ds h s l = rw (numeral_of_one ds h, is_true (counts n ds) (and (ltb 0 (length ds)) (leb (length ds) n) s l))
 
 -- what is read is a numeric string, and what is refused is none
@@ -65,17 +65,17 @@ numeric_decides n v = go (shortest 10 v) refl
     same : (l : List ℕ) → shortest 10 v ≡ l → (r : OneThen n v) → l ≡ 1 ∷ r.0
     same l e r = sym e ∙ numeral_is n v r
 
-    judge : (es : List ℕ) → shortest 10 v ≡ 1 ∷ es → (b : Bool) → counts n es ≡ b → Decides (¬ (OneThen n v)) (NumericIs n v) (cond b (some es) none)
+    judge : (es : List ℕ) → shortest 10 v ≡ 1 ∷ es → (b : Bool) → counts n es ≡ b → Decides (¬ (OneThen n v)) (NumericIs n v) (cond b (Some es) None)
     judge es e true c =
         let (s, l) = both (ltb 0 (length es)) (leb (length es) n) (rw c tt) in
         let (h, q) = numeral_says v es e in
-        (λ none. none (es, h, ltb→lt 0 (length es) s, leb→le (length es) n l, q), (h, s, l, q))
+        (λ None. None (es, h, ltb→lt 0 (length es) s, leb→le (length es) n l, q), (h, s, l, q))
     judge es e false c = λ r.
         let q : es ≡ r.0 = cc (same (1 ∷ es) e r) in
         let t : T (counts n es) = rw q (and (ltb 0 (length r.0)) (leb (length r.0) n) (lt→ltb 0 (length r.0) r.2) (le→leb (length r.0) n r.3)) in
         rw c at t
 
-    begin : (d : ℕ) (es : List ℕ) → shortest 10 v ≡ d ∷ es → (b : Bool) → eqb d 1 ≡ b → Decides (¬ (OneThen n v)) (NumericIs n v) (kept (counts n) (cond b (some es) none))
+    begin : (d : ℕ) (es : List ℕ) → shortest 10 v ≡ d ∷ es → (b : Bool) → eqb d 1 ≡ b → Decides (¬ (OneThen n v)) (NumericIs n v) (kept (counts n) (cond b (Some es) None))
     begin d es e true c = judge es (e ∙ ap (◌∷ es) (eqb→eq d 1 (rw c tt))) (counts n es) refl
     begin d es e false c = λ r. let q : d ≡ 1 = cc (same (d ∷ es) e r) in rw c at (eq→eqb d 1 q)
 

@@ -4,7 +4,7 @@ use Prim.Native.Nat.{ℕ, suc, ◌+◌, ◌-◌, ◌*◌, ◌^◌, ◌≤◌, �
 use mathlib.Core.Path.{◌≡◌, refl, ap}
 use mathlib.Core.Logic.{◌⊎◌, inl, inr}
 use mathlib.Core.List.{List, [], ◌∷◌}
-use mathlib.Core.Option.{Option, none, some}
+use Rattle.std.specs.Prelude.{Option, None, Some}
 use mathlib.Core.Bool.{Bool, true, false, ◌||◌, cond}
 use native.Mathlib.Omega.{arith}
 use lib.Dec.{leb, eqb, lit≤}
@@ -39,8 +39,8 @@ placed m (refused n p) go h k = h
 placed m (taken x) go h k = k x refl
 
 given_placed : {X : Type 0} (m : ℕ) (o : Option X) (n p : ℕ) → p ≤ m → place_of (given o n p) ≤ m
-given_placed m none n p h = h
-given_placed m (some x) n p h = omega arith
+given_placed m None n p h = h
+given_placed m (Some x) n p h = omega arith
 
 -- The rules of a list have small places where they apply.
 abbrev Small : ℕ → List Rule → Type 0
@@ -91,8 +91,8 @@ control_near : (u : List ℕ) → Near (control_fields_in 12 u)
 control_near u = go (opens u)
   where
     colons : (o : Option (List ℕ)) → Near (given o 20 (12 + length (fields_text (fields u))) >>= λ v. taken (record { control = fields u; next = 12 + length (fields_text (fields u)) + 1; rest = v }))
-    colons none = omega (arith, fields_length (fields u))
-    colons (some v) = omega (arith, fields_length (fields u))
+    colons None = omega (arith, fields_length (fields u))
+    colons (Some v) = omega (arith, fields_length (fields u))
 
     go : (b : Bool) → Near (cond b (bracketed 12 u) (taken (record { control = no_fields; next = 12; rest = u })))
     go true = colons (after (colon ∷ []) (behind_both u))

@@ -4,7 +4,7 @@ use mathlib.Core.Path.{◌≡◌, refl, sym, ◌∙◌, ap}
 use mathlib.Core.Logic.Iff
 use mathlib.Core.Logic.{◌↔◌, ⊎_elim}
 use mathlib.Core.List.{List, [], ◌∷◌, ◌++◌}
-use mathlib.Core.Option.{Option, none, some}
+use Rattle.std.specs.Prelude.{Option, None, Some}
 use mathlib.Core.Bool.{Bool, true, false}
 use native.Mathlib.Omega.{arith}
 use native.Mathlib.Nat.{one-le-pow, mul-le-mul_right, pow-suc}
@@ -49,8 +49,8 @@ part_settled n i f t = dots (among dot t) refl
 
     forms : T (among dot t) → (o : Option (List ℕ)) → Decides (¬ (Formed f x)) (λ p. Symbols f x p × T (shaped f p)) o
         → Settled n (¬ (Stands f t)) (◌≡ i) (PartIs f t) (given o n i >>= λ p. demand (sized f p) n i >> taken p)
-    forms d none h = (refl, refl, λ stands. h stands.1)
-    forms d (some p) h = sizes d p h.1.0 h.1.1 (sized f p) refl
+    forms d None h = (refl, refl, λ stands. h stands.1)
+    forms d (Some p) h = sizes d p h.1.0 h.1.1 (sized f p) refl
 
     dots : (b : Bool) → among dot t ≡ b → Settled n (¬ (Stands f t)) (◌≡ i) (PartIs f t) (demand b n i >> (given (formed f x) n i >>= λ p. demand (sized f p) n i >> taken p))
     dots true e = forms (rw e tt) (formed f x) (formed_decides f x)

@@ -2,7 +2,7 @@
 use Prim.Native.Nat.{ℕ, ◌/◌, ◌%◌}
 use mathlib.Core.Path.{◌≡◌, refl, ◌∙◌, ap}
 use mathlib.Core.List.{List, [], ◌∷◌, ◌++◌}
-use mathlib.Core.Option.{Option, none, some, map}
+use Rattle.std.specs.Prelude.{Option, None, Some, option_map}
 use mathlib.Core.Bool.{Bool, true, false, ◌&&◌, not, cond}
 use lib.Dec.{T, eqb, eqb→eq}
 use Rattle.rules.specs.Bytes.{all, among, percent, hex_digit}
@@ -13,13 +13,13 @@ use Rattle.rules.proofs.Answers.{Gives}
 
 -- One test over the 82: a character stands for itself and is no percent sign, or its escape is found.
 found : Option ℕ → ℕ → Bool
-found none c = false
-found (some x) c = eqb x c
+found None c = false
+found (Some x) c = eqb x c
 
-found_eq : (o : Option ℕ) (c : ℕ) → T (found o c) → o ≡ some c
+found_eq : (o : Option ℕ) (c : ℕ) → T (found o c) → o ≡ Some c
 unfolding found
-found_eq none c h = absurd h
-found_eq (some x) c h = ap some (eqb→eq x c h)
+found_eq None c h = absurd h
+found_eq (Some x) c h = ap Some (eqb→eq x c h)
 
 abbrev readable : ℕ → Bool
 readable c = cond (plain c) (not (eqb c percent)) (found (escape escaped (hex_digit (c / 16)) (hex_digit (c % 16))) c)
@@ -33,7 +33,7 @@ not_percent c e =
     let m = (both (character c) (not (among c escaped)) (rw e tt)).0 in
     is_false (eqb c percent) (rw e at (all_among readable table_a1 c all_readable m))
 
-escape_of : (c : ℕ) → T (character c) → plain c ≡ false → escape escaped (hex_digit (c / 16)) (hex_digit (c % 16)) ≡ some c
+escape_of : (c : ℕ) → T (character c) → plain c ≡ false → escape escaped (hex_digit (c / 16)) (hex_digit (c % 16)) ≡ Some c
 escape_of c m e = found_eq (escape escaped (hex_digit (c / 16)) (hex_digit (c % 16))) c (rw e at (all_among readable table_a1 c all_readable m))
 
 -- One over the seven: each is a character that does not stand for itself.
@@ -57,7 +57,7 @@ escape_is (e ∷ es) h l k = go (eqb h x) (eqb→eq h x) (eqb l y) (eqb→eq l y
     y : ℕ
     y = hex_digit (e % 16)
 
-    go : (a : Bool) → (T a → h ≡ x) → (b : Bool) → (T b → l ≡ y) → (o : Option ℕ) → EscapeIs h l o → EscapeIs h l (cond (a && b) (some e) o)
+    go : (a : Bool) → (T a → h ≡ x) → (b : Bool) → (T b → l ≡ y) → (o : Option ℕ) → EscapeIs h l o → EscapeIs h l (cond (a && b) (Some e) o)
     go true p true q o i = ((both (hidden e) (all hidden es) k).0, p tt, q tt)
     go true p false q o i = i
     go false p b q o i = i
@@ -68,10 +68,10 @@ CharactersIs t = Gives λ cs. T (all character cs) × (t ≡ string_text cs)
 itself_is : (c : ℕ) (t : List ℕ) (o : Option (List ℕ)) → CharactersIs t o → CharactersIs (c ∷ t) (put (itself c) o)
 itself_is c t o h = go (plain c) refl o h
   where
-    go : (b : Bool) → plain c ≡ b → (o : Option (List ℕ)) → CharactersIs t o → CharactersIs (c ∷ t) (put (cond b (some c) none) o)
+    go : (b : Bool) → plain c ≡ b → (o : Option (List ℕ)) → CharactersIs t o → CharactersIs (c ∷ t) (put (cond b (Some c) None) o)
     go false e o h = tt
-    go true e none h = tt
-    go true e (some cs) h =
+    go true e None h = tt
+    go true e (Some cs) h =
         let m = (both (character c) (not (among c escaped)) (rw e tt)).0 in
         (and (character c) (all character cs) m h.0, rw e (ap (c ∷◌) h.1))
 
@@ -79,15 +79,15 @@ escaped_is : (c x l : ℕ) (t : List ℕ) (o : Option (List ℕ)) → c ≡ perc
 escaped_is c x l t o e h = go (escape escaped x l) (escape_is escaped x l all_hidden) o h
   where
     go : (q : Option ℕ) → EscapeIs x l q → (o : Option (List ℕ)) → CharactersIs t o → CharactersIs (c ∷ x ∷ l ∷ t) (put q o)
-    go none i o h = tt
-    go (some d) i none h = tt
-    go (some d) i (some cs) h =
+    go None i o h = tt
+    go (Some d) i None h = tt
+    go (Some d) i (Some cs) h =
         let (m, p) = both (character d) (not (plain d)) i.0 in
         (and (character d) (all character cs) m h.0, rw (is_false (plain d) p, e, i.1, i.2, h.1))
 
 pub characters_is : (t : List ℕ) → CharactersIs t (characters_in t)
 characters_is [] = (tt, refl)
-characters_is (c ∷ []) = itself_is c [] (some []) (tt, refl)
+characters_is (c ∷ []) = itself_is c [] (Some []) (tt, refl)
 characters_is (c ∷ h ∷ []) = itself_is c (h ∷ []) (characters_in (h ∷ [])) (characters_is (h ∷ []))
 characters_is (c ∷ h ∷ l ∷ t) =
     go (put (escape escaped h l) (characters_in t)) (put (itself c) (characters_in (h ∷ l ∷ t))) (eqb c percent) (eqb→eq c percent)
@@ -99,17 +99,17 @@ characters_is (c ∷ h ∷ l ∷ t) =
     go o p true e f g = f (e tt)
     go o p false e f g = g
 
-pub itself_of : (c : ℕ) (t : List ℕ) → plain c ≡ true → characters_in (c ∷ t) ≡ map (c ∷◌) (characters_in t)
+pub itself_of : (c : ℕ) (t : List ℕ) → plain c ≡ true → characters_in (c ∷ t) ≡ option_map (c ∷◌) (characters_in t)
 itself_of c [] e = rw e
 itself_of c (x ∷ []) e = rw e
 itself_of c (x ∷ y ∷ t) e = rw (not_percent c e, e)
 
-pub characters_of_lem : (cs : List ℕ) → T (all character cs) → characters_in (string_text cs) ≡ some cs
+pub characters_of_lem : (cs : List ℕ) → T (all character cs) → characters_in (string_text cs) ≡ Some cs
 characters_of_lem [] h = refl
 characters_of_lem (c ∷ cs) h =
     let (a, b) = both (character c) (all character cs) h in
     go (plain c) refl (characters_of_lem cs b) a
   where
-    go : (b : Bool) → plain c ≡ b → characters_in (string_text cs) ≡ some cs → T (character c) → characters_in (spelling b c ++ string_text cs) ≡ some (c ∷ cs)
+    go : (b : Bool) → plain c ≡ b → characters_in (string_text cs) ≡ Some cs → T (character c) → characters_in (spelling b c ++ string_text cs) ≡ Some (c ∷ cs)
     go true e ih m = itself_of c (string_text cs) e ∙ rw ih
     go false e ih m = rw (escape_of c m e, ih)

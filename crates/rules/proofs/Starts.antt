@@ -2,7 +2,7 @@
 use Prim.Native.Nat.{ℕ, ◌+◌}
 use mathlib.Core.Path.{◌≡◌, refl, sym, ◌∙◌, ap, ap₂}
 use mathlib.Core.List.{List, [], ◌∷◌, ◌++◌}
-use mathlib.Core.Option.{Option, none, some}
+use Rattle.std.specs.Prelude.{Option, None, Some}
 use mathlib.Core.Bool.{Bool, true, false, cond}
 use native.Mathlib.Omega.{arith}
 use native.Mathlib.Nat.{zero-add}
@@ -19,12 +19,12 @@ after_is [] t = refl
 after_is (x ∷ s) [] = tt
 after_is (x ∷ s) (y ∷ t) = go (eqb x y) (eqb→eq x y) (after s t) (after_is s t)
   where
-    go : (b : Bool) → (T b → x ≡ y) → (o : Option (List ℕ)) → Gives (λ u. t ≡ s ++ u) o → Gives (λ u. y ∷ t ≡ x ∷ s ++ u) (cond b o none)
+    go : (b : Bool) → (T b → x ≡ y) → (o : Option (List ℕ)) → Gives (λ u. t ≡ s ++ u) o → Gives (λ u. y ∷ t ≡ x ∷ s ++ u) (cond b o None)
     go false e o h = tt
-    go true e none h = tt
-    go true e (some u) h = ap₂ ◌∷◌ (sym (e tt)) h
+    go true e None h = tt
+    go true e (Some u) h = ap₂ ◌∷◌ (sym (e tt)) h
 
-pub after_of : (s u : List ℕ) → after s (s ++ u) ≡ some u
+pub after_of : (s u : List ℕ) → after s (s ++ u) ≡ Some u
 after_of [] u = refl
 after_of (x ∷ s) u = rw (is_true (eqb x x) (eqb_refl x), after_of s u)
 

@@ -3,7 +3,7 @@ use Prim.Native.Nat.{ℕ, ◌+◌}
 use mathlib.Core.Path.{◌≡◌, refl, ◌∙◌, ap}
 use mathlib.Core.Logic.{◌↔◌}
 use mathlib.Core.List.{List, [], ◌∷◌, ◌++◌}
-use mathlib.Core.Option.{Option, none, some}
+use Rattle.std.specs.Prelude.{Option, None, Some}
 use native.Mathlib.Omega.{arith}
 use lib.Dec.{T, lit<}
 use lib.ListN.{length}
@@ -77,11 +77,11 @@ named_is (s ∷ ss) u = go (after (label s) u) (after_is (label s) u) (named ss 
   where
     go : (o : Option (List ℕ)) → Gives (λ v. u ≡ label s ++ v) o → (q : Option Named) → Gives (λ c. u ≡ label c.scheme ++ c.rest) q
         → Gives (λ c. u ≡ label c.scheme ++ c.rest) (choose s o q)
-    go none h q i = i
-    go (some v) h q i = h
+    go None h q i = i
+    go (Some v) h q i = h
 
 -- each name and colon are the scheme's alone
-pub named_of : (s : Scheme) (v : List ℕ) → named schemes (label s ++ v) ≡ some (record { scheme = s; rest = v })
+pub named_of : (s : Scheme) (v : List ℕ) → named schemes (label s ++ v) ≡ Some (record { scheme = s; rest = v })
 unfolding schemes
 named_of Sgtin96 v = refl
 named_of Sgtin198 v = refl
@@ -101,7 +101,7 @@ named_of Sgcn96 v = refl
 named_of Cpi96 v = refl
 
 -- no name begins with a bracket
-no_name : (v : List ℕ) → named schemes (bracket ∷ v) ≡ none
+no_name : (v : List ℕ) → named schemes (bracket ∷ v) ≡ None
 unfolding schemes
 no_name v = refl
 

@@ -1,6 +1,6 @@
 -- A reader's answer: refused with a number and a place, or taken. What is read first refuses first.
 use Rattle.std.specs.Prelude.{ℕ, Bool, true, false, cond}
-use Rattle.std.proofs.Math.Option.{Option, none, some}
+use Rattle.std.specs.Prelude.{Option, None, Some}
 
 pub data Answer (X : Type 0) : Type 0 where
   refused : ℕ → ℕ → Answer X
@@ -22,13 +22,13 @@ demand true n p = taken tt
 demand false n p = refused n p
 
 abbrev pub given : {X : Type 0} → Option X → ℕ → ℕ → Answer X
-given none n p = refused n p
-given (some x) n p = taken x
+given None n p = refused n p
+given (Some x) n p = taken x
 
 -- a value, if it passes a test
 abbrev pub kept : {X : Type 0} → (X → Bool) → Option X → Option X
-kept test none = none
-kept test (some x) = cond (test x) (some x) none
+kept test None = None
+kept test (Some x) = cond (test x) (Some x) None
 
 -- 0 for what is taken
 abbrev pub number_of : {X : Type 0} → Answer X → ℕ

@@ -1,7 +1,7 @@
 -- Bank to text: the number and the place of a bank (document 01, "Numbers given, and when": 9 to 19; document 02, C-12, C-13 and C-15). A reader
 -- is told at which address its bits begin.
 use Rattle.std.specs.Prelude.{ℕ, ◌+◌, ◌-◌, ◌*◌, ◌/◌, ◌^◌, List, [], ◌∷◌, Bool, ◌&&◌, not, cond, leb, ltb, eqb, length, take, drop}
-use Rattle.std.proofs.Math.Option.{Option, none, some, map}
+use Rattle.std.specs.Prelude.{Option, None, Some, option_map}
 use Rattle.numeral.specs.Numeral.{value, numeral, spread, gather, shortest}
 use Rattle.rules.specs.Answers.{Answer, taken, ◌>>=◌, ◌>>◌, demand, given, kept, number_of, place_of}
 use Rattle.rules.specs.Bytes.{all, upto}
@@ -34,8 +34,8 @@ all_zero = all λ x. eqb x 0
 
 -- the groups before the first zero, if only zeros follow
 abbrev pub leading : List ℕ → Option (List ℕ)
-leading [] = some []
-leading (g ∷ gs) = let r = map (g ∷◌) (leading gs) in cond (eqb g 0) (cond (all_zero gs) (some []) none) r
+leading [] = Some []
+leading (g ∷ gs) = let r = option_map (g ∷◌) (leading gs) in cond (eqb g 0) (cond (all_zero gs) (Some []) None) r
 
 -- the string in its groups
 abbrev pub string_in : List ℕ → Option (List ℕ)
@@ -43,8 +43,8 @@ string_in gs = kept (λ cs. ltb 0 (length cs) && all character cs) (leading gs)
 
 -- the digits behind a 1
 abbrev pub behind_one : List ℕ → Option (List ℕ)
-behind_one [] = none
-behind_one (d ∷ ds) = cond (eqb d 1) (some ds) none
+behind_one [] = None
+behind_one (d ∷ ds) = cond (eqb d 1) (Some ds) None
 
 -- the numeric string in a numeral, a 1 and 1 to n digits
 abbrev pub numeric_in : ℕ → List ℕ → Option (List ℕ)
@@ -80,8 +80,8 @@ fields_in a (end r f) l = do
   taken (c.symbols ∷ [])
 
 abbrev pub headed : ℕ → List Scheme → Option Scheme
-headed h [] = none
-headed h (s ∷ ss) = let r = headed h ss in cond (eqb h (about s).header) (some s) r
+headed h [] = None
+headed h (s ∷ ss) = let r = headed h ss in cond (eqb h (about s).header) (Some s) r
 
 -- the code: W words from 20h on
 abbrev pub code_in : List ℕ → List ℕ

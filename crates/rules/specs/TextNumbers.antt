@@ -2,7 +2,7 @@
 -- and C-13). A reader is told at which offset of the text it begins.
 use Rattle.std.specs.Prelude.{ℕ, zero, suc, ◌+◌, ◌-◌, ◌/◌, ◌%◌, List, [], ◌∷◌, Bool, false, ◌&&◌, cond, leb, eqb, length}
 use Prim.Native.Char.{code}
-use Rattle.std.proofs.Math.Option.{Option, none, some, map}
+use Rattle.std.specs.Prelude.{Option, None, Some, option_map}
 use Rattle.rules.specs.Answers.{Answer, taken, ◌>>=◌, ◌>>◌, demand, given, kept, number_of, place_of}
 use Rattle.rules.specs.Bytes.{among, upto, behind, dot, colon, percent, hex_digit}
 use Rattle.rules.specs.declared.Scheme.{Scheme}
@@ -16,9 +16,9 @@ use Rattle.rules.specs.Grammar.{Role, filter, prefix, reference, last, Layout, p
 
 -- the text behind s, if t begins with s
 abbrev pub after : List ℕ → List ℕ → Option (List ℕ)
-after [] t = some t
-after (x ∷ s) [] = none
-after (x ∷ s) (y ∷ t) = let r = after s t in cond (eqb x y) r none
+after [] t = Some t
+after (x ∷ s) [] = None
+after (x ∷ s) (y ∷ t) = let r = after s t in cond (eqb x y) r None
 
 -- a control field's value, and the text behind it
 pub record Valued : Type 0 where
@@ -26,8 +26,8 @@ pub record Valued : Type 0 where
   pub rest : List ℕ
 
 abbrev pub either : ℕ → Option (List ℕ) → Valued → Valued
-either v none o = o
-either v (some r) o = record { value = v; rest = r }
+either v None o = o
+either v (Some r) o = record { value = v; rest = r }
 
 -- the value, at most n and not zero, whose field u begins with; 0 if there is none
 abbrev pub valued : ControlName → ℕ → List ℕ → Valued
@@ -67,11 +67,11 @@ pub record Named : Type 0 where
   pub rest : List ℕ
 
 abbrev pub choose : Scheme → Option (List ℕ) → Option Named → Option Named
-choose s none o = o
-choose s (some v) o = some (record { scheme = s; rest = v })
+choose s None o = o
+choose s (Some v) o = Some (record { scheme = s; rest = v })
 
 abbrev pub named : List Scheme → List ℕ → Option Named
-named [] u = none
+named [] u = None
 named (s ∷ ss) u = choose s (after (label s) u) (named ss u)
 
 -- the digits of a text that has nothing else
@@ -79,25 +79,25 @@ abbrev pub is_digit : ℕ → Bool
 is_digit x = leb (code "0") x && leb x (code "9")
 
 abbrev pub digits_in : List ℕ → Option (List ℕ)
-digits_in [] = some []
-digits_in (x ∷ xs) = let r = map ((x - code "0") ∷◌) (digits_in xs) in cond (is_digit x) r none
+digits_in [] = Some []
+digits_in (x ∷ xs) = let r = option_map ((x - code "0") ∷◌) (digits_in xs) in cond (is_digit x) r None
 
 -- the character among es whose escape has these two digits
 abbrev pub escape : List ℕ → ℕ → ℕ → Option ℕ
-escape [] h l = none
-escape (e ∷ es) h l = let r = escape es h l in cond (eqb h (hex_digit (e / 16)) && eqb l (hex_digit (e % 16))) (some e) r
+escape [] h l = None
+escape (e ∷ es) h l = let r = escape es h l in cond (eqb h (hex_digit (e / 16)) && eqb l (hex_digit (e % 16))) (Some e) r
 
 abbrev pub itself : ℕ → Option ℕ
-itself c = cond (plain c) (some c) none
+itself c = cond (plain c) (Some c) None
 
 abbrev pub put : Option ℕ → Option (List ℕ) → Option (List ℕ)
-put none r = none
-put (some c) r = map (c ∷◌) r
+put None r = None
+put (Some c) r = option_map (c ∷◌) r
 
 -- the characters of a text, each itself or an escape, that has nothing else
 abbrev pub characters_in : List ℕ → Option (List ℕ)
-characters_in [] = some []
-characters_in (c ∷ []) = put (itself c) (some [])
+characters_in [] = Some []
+characters_in (c ∷ []) = put (itself c) (Some [])
 characters_in (c ∷ h ∷ []) = put (itself c) (characters_in (h ∷ []))
 characters_in (c ∷ h ∷ l ∷ t) =
     let e = put (escape escaped h l) (characters_in t) in

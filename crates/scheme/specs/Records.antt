@@ -1,7 +1,6 @@
 -- The record of a tag, from its control fields and its parts.
-use Rattle.std.specs.Prelude.{ℕ, ◌≡◌, List, [], ◌++◌, length, get_or, take, drop, replicate}
+use Rattle.std.specs.Prelude.{ℕ, ◌≡◌, List, [], ◌++◌, length, get_or, take, drop, replicate, Result, Ok}
 use Rattle.numeral.specs.Numeral.{value}
-use Rattle.rules.specs.declared.Scheme.TheVariants.{Sgtin96}
 use Rattle.rules.specs.declared.Last.{Last}
 use Rattle.rules.specs.declared.Last.TheVariants.{Integer, String, Numeric}
 use Rattle.rules.specs.declared.Body.TheVariants.{Then, Zeros, E}
@@ -9,10 +8,10 @@ use Rattle.rules.specs.declared.Parts.{Parts}
 use Rattle.rules.specs.declared.Parts.TheVariants.{F, Integers}
 use Rattle.rules.specs.Schemes.{about}
 use Rattle.rules.specs.Answers.{Answer, refused, taken}
-use Rattle.rules.specs.ControlFields.{no_fields}
 use Rattle.rules.specs.Grammar.{Tag, TagFits}
 use Rattle.scheme.specs.declared.record.Record.{Record}
-use Rattle.scheme.specs.declared.record.Reading.{Reading}
+use Rattle.scheme.specs.declared.refusal.Refusal.{Refusal}
+use Rattle.scheme.specs.Refusals.{refusal}
 
 -- the i-th part, and its value
 abbrev pub part_at : List (List ℕ) → ℕ → List ℕ
@@ -109,24 +108,7 @@ pub record HasTag (r : Record) : Type 0 where
 abbrev pub Writes : (Tag → List ℕ) → Record → List ℕ → ℕ → List ℕ → Type 0
 Writes form r out n after = (τ : Tag) → RecordIs r τ → (n ≡ length (form τ)) × (after ≡ form τ ++ drop (length (form τ)) out)
 
--- a blank record, for a refusal
-abbrev pub blank : Record
-blank = record {
-  scheme = Sgtin96;
-  control = no_fields;
-  filter = 0;
-  prefix = 0;
-  digits = 0;
-  reference = 0;
-  serial = 0;
-  characters = replicate 20 0;
-  count = 0;
-}
-
-abbrev pub refusal : ℕ → ℕ → Reading
-refusal n p = record { number = n; place = p; tag = blank }
-
 -- what a reader's answer is in code
-abbrev pub reading_of : Answer Tag → Reading
+abbrev pub reading_of : Answer Tag → Result Record Refusal
 reading_of (refused n p) = refusal n p
-reading_of (taken τ) = record { number = 0; place = 0; tag = record_of τ }
+reading_of (taken τ) = Ok (record_of τ)

@@ -3,7 +3,6 @@ use Rattle.std.specs.Prelude.{ℕ, ◌+◌, ◌<◌, ◌≡◌}
 use Rattle.rules.specs.declared.Table.{Table}
 use Rattle.rules.specs.Schemes.{Row, row_at, cell, prefix_bits, prefix_digits}
 use Rattle.scheme.specs.declared.rows.Cell.{Cell}
-use Rattle.scheme.specs.declared.rows.Sum.{Sum}
 
 abbrev pub prefix_of : Row → Cell
 prefix_of r = record { bits = prefix_bits r; digits = prefix_digits r }
@@ -12,9 +11,9 @@ abbrev pub reference_of : Table → Row → Cell
 reference_of t r = record { bits = (cell t r).0; digits = (cell t r).1 }
 
 -- the bits and the digits that prefix and reference have together in a row
-abbrev pub sum_of : Table → Row → Sum
-sum_of t r = record { 0 = prefix_bits r + (cell t r).0; 1 = prefix_digits r + (cell t r).1 }
+abbrev pub sum_of : Table → Row → Cell
+sum_of t r = record { bits = prefix_bits r + (cell t r).0; digits = prefix_digits r + (cell t r).1 }
 
 -- the one sum of a table, in every row (document 02, C-14)
-abbrev pub SumIn : Table → Sum → Type 0
+abbrev pub SumIn : Table → Cell → Type 0
 SumIn t s = (P : ℕ) → P < 7 → s ≡ sum_of t (row_at P)

@@ -29,7 +29,7 @@ impl BankAddress {
 }
 
 impl CodeBit {
-    // The only conversion between the two counts: code bit 0 is address 20h.
+    // The only conversion between the two counts: code bit 0 is address 20h. Not `From`, which may require nothing: the sum has to fit.
     pub fn address(self) -> BankAddress
         requires { self.0 ≤ 0x1000 }
         ensures { result.0 ≡ (address_of self).0 }

@@ -1,50 +1,76 @@
 // The numbers that documents 01 ("Numbers given, and when") and 02 give to refusals, by name. Their tables and words say when each is given.
-pub const OUTPUT_TOO_SHORT: u8 = 1;
+ghost use Rattle.std.specs.Prelude.{◌≡◌, ◌≤◌};
 
-// Text to bank.
+use super::counts::CodeBit;
 
-// Looked at right after 1 (document 02, C-15): more words are asked for than five bits count.
-pub const TOO_MANY_WORDS: u8 = 21;
+// The rules, each with its number.
+#[derive(Clone, Copy, PartialEq, Eq)]
+pub enum Rule {
+    OutputTooShort = 1,
 
-pub const START: u8 = 2;
+    // Text to bank. 20 is looked at between 2 and 3 (document 02, C-13); 21, more words than five bits count, right after 1, and 22, fewer than the
+    // scheme needs, after 8 (C-15).
+    Start = 2,
+    Name = 3,
+    Filter = 4,
+    Prefix = 5,
+    Reference = 6,
+    LastPartForm = 7,
+    LastPartSize = 8,
+    ControlFields = 20,
+    TooManyWords = 21,
+    TooFewWords = 22,
 
-// Looked at between 2 and 3 (document 02, C-13).
-pub const CONTROL_FIELDS: u8 = 20;
+    // Bank to text.
+    BankTooShort = 9,
+    NoWords = 10,
+    Toggle = 11,
+    ControlBits = 12,
+    Header = 13,
+    WordCount = 14,
+    FillBits = 15,
+    Partition = 16,
+    PrefixTooLarge = 17,
+    ReferenceTooLarge = 18,
+    String = 19,
 
-pub const NAME: u8 = 3;
+    // An identity to a tag text (document 02, C-16).
+    NotAnIdentity = 23,
+    FilterTooLarge = 24,
+    NoScheme = 25,
+}
 
-pub const FILTER: u8 = 4;
+// A refusal: the first rule that was broken, and its place (document 02, C-12).
+#[derive(Clone, Copy)]
+pub struct Refusal {
+    pub rule: Rule,
+    pub place: usize,
+}
 
-pub const PREFIX: u8 = 5;
+impl Rule {
+    ghost use Rattle.scheme.specs.Refusals.{number, by};
+    ghost use Rattle.scheme.specs.Counts.{address_of};
 
-pub const REFERENCE: u8 = 6;
+    // The number of the rule.
+    pub fn number(self) -> u8
+        ensures { result ≡ number self }
+    {
+        self as u8
+    }
 
-pub const LAST_PART_FORM: u8 = 7;
+    // A refusal by this rule.
+    pub fn at(self, place: usize) -> Refusal
+        ensures { result ≡ by self place }
+    {
+        Refusal { rule: self, place }
+    }
 
-pub const LAST_PART_SIZE: u8 = 8;
-
-// Looked at after 8 (document 02, C-15): fewer words are asked for than the scheme needs.
-pub const TOO_FEW_WORDS: u8 = 22;
-
-// Bank to text.
-pub const BANK_TOO_SHORT: u8 = 9;
-
-pub const NO_WORDS: u8 = 10;
-
-pub const TOGGLE: u8 = 11;
-
-pub const CONTROL_BITS: u8 = 12;
-
-pub const HEADER: u8 = 13;
-
-pub const WORD_COUNT: u8 = 14;
-
-pub const FILL_BITS: u8 = 15;
-
-pub const PARTITION: u8 = 16;
-
-pub const PREFIX_TOO_LARGE: u8 = 17;
-
-pub const REFERENCE_TOO_LARGE: u8 = 18;
-
-pub const STRING: u8 = 19;
+    // A refusal of a field of the code, at the address of its first bit.
+    pub fn at_bit(self, first: CodeBit) -> Refusal
+        requires { first.0 ≤ 0x1000 }
+        ensures { result ≡ by self (address_of first).0 }
+    {
+        let address = first.address();
+        self.at(address.0)
+    }
+}

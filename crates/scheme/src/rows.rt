@@ -16,6 +16,7 @@ pub struct Cell {
 }
 
 // The partition value of a company prefix.
+#[tactic(auto, using(crate::proofs::Sums::digits_pick))]
 pub fn by_digits(digits: usize) -> usize
     requires { (6 ≤ digits) × (digits ≤ 12) }
     ensures { result ≡ partition digits }
@@ -24,6 +25,7 @@ pub fn by_digits(digits: usize) -> usize
 }
 
 // The company prefix of a row. A digit is worth log2 10 = 3.32 bits; 53 / 16 = 3.31 a digit, rounded up, gives the fewest for 6 to 12 digits.
+#[tactic(auto, using(crate::proofs::Sums::rounded))]
 pub fn prefix(p: usize) -> Cell
     requires { p < 7 }
     ensures { result ≡ prefix_of (row_at p) }
@@ -35,24 +37,23 @@ pub fn prefix(p: usize) -> Cell
     }
 }
 
-// The bits and the digits that prefix and reference have together.
-#[derive(Clone, Copy)]
-struct Sum(usize, usize);
-
-// The sum of a table: it is the same in every row.
-fn sum_of(t: Table) -> Sum
+// The bits and the digits that prefix and reference have together: their sum is the same in every row of a table.
+#[tactic(auto, using(crate::proofs::Sums::sums))]
+fn sum_of(t: Table) -> Cell
     ensures { SumIn t result }
 {
-    match t {
-        Table::A => Sum(44, 13),
-        Table::B => Sum(58, 17),
-        Table::C => Sum(44, 12),
-        Table::D => Sum(41, 12),
-        Table::Cpi => Sum(51, 15),
-    }
+    let (bits, digits) = match t {
+        Table::A => (44, 13),
+        Table::B => (58, 17),
+        Table::C => (44, 12),
+        Table::D => (41, 12),
+        Table::Cpi => (51, 15),
+    };
+    Cell { bits, digits }
 }
 
 // The reference of a row in one of the tables A to D, or in cpi-96's own.
+#[tactic(auto, using(crate::proofs::Sums::reference_left))]
 pub fn reference(t: Table, p: usize) -> Cell
     requires { p < 7 }
     ensures { result ≡ reference_of t (row_at p) }
@@ -60,8 +61,8 @@ pub fn reference(t: Table, p: usize) -> Cell
     let whole = sum_of(t);
     let company = prefix(p);
     Cell {
-        bits: whole.0 - company.bits,
-        digits: whole.1 - company.digits,
+        bits: whole.bits - company.bits,
+        digits: whole.digits - company.digits,
     }
 }
 
@@ -69,16 +70,11 @@ pub fn reference(t: Table, p: usize) -> Cell
 pub fn exact(t: Table) -> bool
     ensures { result ≡ isExact t }
 {
-    match t {
-        Table::A => true,
-        Table::B => true,
-        Table::C => true,
-        Table::D => true,
-        Table::Cpi => false,
-    }
+    !matches!(t, Table::Cpi)
 }
 
 // The bits of a row's reference in table E.
+#[tactic(auto, using(crate::proofs::Sums::asset_sum, rules::proofs::Rows::narrow_row))]
 pub fn asset(p: usize) -> usize
     requires { p < 7 }
     ensures { result ≡ asset_bits (row_at p) }

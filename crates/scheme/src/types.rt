@@ -1,22 +1,71 @@
 // A type for each scheme, with its header, its bit total and its word count as associated constants, and its constructor
 // (document 01, "The thirteen schemes", and document 02, C-11). The code has these numbers from here.
-ghost use Rattle.std.specs.Prelude.{◌≡◌};
+ghost use Rattle.std.specs.Prelude.{◌≡◌, ℕ, refl};
+ghost use Rattle.rules.specs.declared.Parts.{Parts};
+ghost use Rattle.rules.specs.declared.Scheme.{Scheme};
+ghost use Rattle.rules.specs.Schemes.{about, words_for};
+ghost use Rattle.scheme.specs.Outlines.{outline, outline_of};
 
-use rules::Scheme;
+use rules::{Body, Last, Parts, Scheme, Table};
+
+// What each scheme carries. The ghost members are what the documents' table says of `scheme`: the check proves the constants equal to them.
+pub trait Columns {
+    const HEADER: u8;
+
+    const BITS: usize;
+
+    const PARTS: Parts;
+
+    ghost HEADER: { ℕ };
+
+    ghost BITS: { ℕ };
+
+    ghost PARTS: { Parts };
+
+    ghost scheme: { Scheme };
+
+    fn new() -> Scheme
+        ensures { result ≡ scheme };
+
+    // The constants are this scheme's row, and no other's.
+    ghost listed: { outline HEADER BITS PARTS ≡ outline_of scheme };
+}
+
+// The word count, once for all schemes. It is no constant with a value in `Columns`, since no contract can cite such a value.
+pub trait Words {
+    const WORDS: usize;
+
+    ghost WORDS: { ℕ };
+}
+
+// Words of 16 bits: the bit total divided by 16, rounded up.
+impl<C: Columns> Words for C {
+    const WORDS: usize = (C::BITS + 15) / 16;
+
+    ghost WORDS = { words_for C.BITS };
+}
 
 #[derive(Clone, Copy)]
 pub struct Sgtin96;
 
-impl Sgtin96 {
-    pub const HEADER: u8 = 0x30;
+impl Columns for Sgtin96 {
+    const HEADER: u8 = 0x30;
 
-    pub const BITS: usize = 96;
+    const BITS: usize = 96;
 
-    pub const WORDS: usize = (Sgtin96::BITS + 15) / 16;
+    const PARTS: Parts = Parts::F(Body::Then(Table::A, Last::Integer(38)));
 
-    pub fn new() -> Scheme
-        ensures { result ≡ Scheme.Sgtin96 }
-    {
+    ghost HEADER = { (about Scheme.Sgtin96).header };
+
+    ghost BITS = { (about Scheme.Sgtin96).bits };
+
+    ghost PARTS = { (about Scheme.Sgtin96).parts };
+
+    ghost scheme = { Scheme.Sgtin96 };
+
+    ghost listed = { refl };
+
+    fn new() -> Scheme {
         Scheme::Sgtin96
     }
 }
@@ -24,16 +73,24 @@ impl Sgtin96 {
 #[derive(Clone, Copy)]
 pub struct Sgtin198;
 
-impl Sgtin198 {
-    pub const HEADER: u8 = 0x36;
+impl Columns for Sgtin198 {
+    const HEADER: u8 = 0x36;
 
-    pub const BITS: usize = 198;
+    const BITS: usize = 198;
 
-    pub const WORDS: usize = (Sgtin198::BITS + 15) / 16;
+    const PARTS: Parts = Parts::F(Body::Then(Table::A, Last::String(140)));
 
-    pub fn new() -> Scheme
-        ensures { result ≡ Scheme.Sgtin198 }
-    {
+    ghost HEADER = { (about Scheme.Sgtin198).header };
+
+    ghost BITS = { (about Scheme.Sgtin198).bits };
+
+    ghost PARTS = { (about Scheme.Sgtin198).parts };
+
+    ghost scheme = { Scheme.Sgtin198 };
+
+    ghost listed = { refl };
+
+    fn new() -> Scheme {
         Scheme::Sgtin198
     }
 }
@@ -41,16 +98,24 @@ impl Sgtin198 {
 #[derive(Clone, Copy)]
 pub struct Sscc96;
 
-impl Sscc96 {
-    pub const HEADER: u8 = 0x31;
+impl Columns for Sscc96 {
+    const HEADER: u8 = 0x31;
 
-    pub const BITS: usize = 96;
+    const BITS: usize = 96;
 
-    pub const WORDS: usize = (Sscc96::BITS + 15) / 16;
+    const PARTS: Parts = Parts::F(Body::Zeros(Table::B, 24));
 
-    pub fn new() -> Scheme
-        ensures { result ≡ Scheme.Sscc96 }
-    {
+    ghost HEADER = { (about Scheme.Sscc96).header };
+
+    ghost BITS = { (about Scheme.Sscc96).bits };
+
+    ghost PARTS = { (about Scheme.Sscc96).parts };
+
+    ghost scheme = { Scheme.Sscc96 };
+
+    ghost listed = { refl };
+
+    fn new() -> Scheme {
         Scheme::Sscc96
     }
 }
@@ -58,16 +123,24 @@ impl Sscc96 {
 #[derive(Clone, Copy)]
 pub struct Sgln96;
 
-impl Sgln96 {
-    pub const HEADER: u8 = 0x32;
+impl Columns for Sgln96 {
+    const HEADER: u8 = 0x32;
 
-    pub const BITS: usize = 96;
+    const BITS: usize = 96;
 
-    pub const WORDS: usize = (Sgln96::BITS + 15) / 16;
+    const PARTS: Parts = Parts::F(Body::Then(Table::D, Last::Integer(41)));
 
-    pub fn new() -> Scheme
-        ensures { result ≡ Scheme.Sgln96 }
-    {
+    ghost HEADER = { (about Scheme.Sgln96).header };
+
+    ghost BITS = { (about Scheme.Sgln96).bits };
+
+    ghost PARTS = { (about Scheme.Sgln96).parts };
+
+    ghost scheme = { Scheme.Sgln96 };
+
+    ghost listed = { refl };
+
+    fn new() -> Scheme {
         Scheme::Sgln96
     }
 }
@@ -75,16 +148,24 @@ impl Sgln96 {
 #[derive(Clone, Copy)]
 pub struct Sgln195;
 
-impl Sgln195 {
-    pub const HEADER: u8 = 0x39;
+impl Columns for Sgln195 {
+    const HEADER: u8 = 0x39;
 
-    pub const BITS: usize = 195;
+    const BITS: usize = 195;
 
-    pub const WORDS: usize = (Sgln195::BITS + 15) / 16;
+    const PARTS: Parts = Parts::F(Body::Then(Table::D, Last::String(140)));
 
-    pub fn new() -> Scheme
-        ensures { result ≡ Scheme.Sgln195 }
-    {
+    ghost HEADER = { (about Scheme.Sgln195).header };
+
+    ghost BITS = { (about Scheme.Sgln195).bits };
+
+    ghost PARTS = { (about Scheme.Sgln195).parts };
+
+    ghost scheme = { Scheme.Sgln195 };
+
+    ghost listed = { refl };
+
+    fn new() -> Scheme {
         Scheme::Sgln195
     }
 }
@@ -92,16 +173,24 @@ impl Sgln195 {
 #[derive(Clone, Copy)]
 pub struct Grai96;
 
-impl Grai96 {
-    pub const HEADER: u8 = 0x33;
+impl Columns for Grai96 {
+    const HEADER: u8 = 0x33;
 
-    pub const BITS: usize = 96;
+    const BITS: usize = 96;
 
-    pub const WORDS: usize = (Grai96::BITS + 15) / 16;
+    const PARTS: Parts = Parts::F(Body::Then(Table::C, Last::Integer(38)));
 
-    pub fn new() -> Scheme
-        ensures { result ≡ Scheme.Grai96 }
-    {
+    ghost HEADER = { (about Scheme.Grai96).header };
+
+    ghost BITS = { (about Scheme.Grai96).bits };
+
+    ghost PARTS = { (about Scheme.Grai96).parts };
+
+    ghost scheme = { Scheme.Grai96 };
+
+    ghost listed = { refl };
+
+    fn new() -> Scheme {
         Scheme::Grai96
     }
 }
@@ -109,16 +198,24 @@ impl Grai96 {
 #[derive(Clone, Copy)]
 pub struct Grai170;
 
-impl Grai170 {
-    pub const HEADER: u8 = 0x37;
+impl Columns for Grai170 {
+    const HEADER: u8 = 0x37;
 
-    pub const BITS: usize = 170;
+    const BITS: usize = 170;
 
-    pub const WORDS: usize = (Grai170::BITS + 15) / 16;
+    const PARTS: Parts = Parts::F(Body::Then(Table::C, Last::String(112)));
 
-    pub fn new() -> Scheme
-        ensures { result ≡ Scheme.Grai170 }
-    {
+    ghost HEADER = { (about Scheme.Grai170).header };
+
+    ghost BITS = { (about Scheme.Grai170).bits };
+
+    ghost PARTS = { (about Scheme.Grai170).parts };
+
+    ghost scheme = { Scheme.Grai170 };
+
+    ghost listed = { refl };
+
+    fn new() -> Scheme {
         Scheme::Grai170
     }
 }
@@ -126,16 +223,24 @@ impl Grai170 {
 #[derive(Clone, Copy)]
 pub struct Giai96;
 
-impl Giai96 {
-    pub const HEADER: u8 = 0x34;
+impl Columns for Giai96 {
+    const HEADER: u8 = 0x34;
 
-    pub const BITS: usize = 96;
+    const BITS: usize = 96;
 
-    pub const WORDS: usize = (Giai96::BITS + 15) / 16;
+    const PARTS: Parts = Parts::F(Body::E);
 
-    pub fn new() -> Scheme
-        ensures { result ≡ Scheme.Giai96 }
-    {
+    ghost HEADER = { (about Scheme.Giai96).header };
+
+    ghost BITS = { (about Scheme.Giai96).bits };
+
+    ghost PARTS = { (about Scheme.Giai96).parts };
+
+    ghost scheme = { Scheme.Giai96 };
+
+    ghost listed = { refl };
+
+    fn new() -> Scheme {
         Scheme::Giai96
     }
 }
@@ -143,16 +248,24 @@ impl Giai96 {
 #[derive(Clone, Copy)]
 pub struct Gsrn96;
 
-impl Gsrn96 {
-    pub const HEADER: u8 = 0x2D;
+impl Columns for Gsrn96 {
+    const HEADER: u8 = 0x2D;
 
-    pub const BITS: usize = 96;
+    const BITS: usize = 96;
 
-    pub const WORDS: usize = (Gsrn96::BITS + 15) / 16;
+    const PARTS: Parts = Parts::F(Body::Zeros(Table::B, 24));
 
-    pub fn new() -> Scheme
-        ensures { result ≡ Scheme.Gsrn96 }
-    {
+    ghost HEADER = { (about Scheme.Gsrn96).header };
+
+    ghost BITS = { (about Scheme.Gsrn96).bits };
+
+    ghost PARTS = { (about Scheme.Gsrn96).parts };
+
+    ghost scheme = { Scheme.Gsrn96 };
+
+    ghost listed = { refl };
+
+    fn new() -> Scheme {
         Scheme::Gsrn96
     }
 }
@@ -160,16 +273,24 @@ impl Gsrn96 {
 #[derive(Clone, Copy)]
 pub struct Gsrnp96;
 
-impl Gsrnp96 {
-    pub const HEADER: u8 = 0x2E;
+impl Columns for Gsrnp96 {
+    const HEADER: u8 = 0x2E;
 
-    pub const BITS: usize = 96;
+    const BITS: usize = 96;
 
-    pub const WORDS: usize = (Gsrnp96::BITS + 15) / 16;
+    const PARTS: Parts = Parts::F(Body::Zeros(Table::B, 24));
 
-    pub fn new() -> Scheme
-        ensures { result ≡ Scheme.Gsrnp96 }
-    {
+    ghost HEADER = { (about Scheme.Gsrnp96).header };
+
+    ghost BITS = { (about Scheme.Gsrnp96).bits };
+
+    ghost PARTS = { (about Scheme.Gsrnp96).parts };
+
+    ghost scheme = { Scheme.Gsrnp96 };
+
+    ghost listed = { refl };
+
+    fn new() -> Scheme {
         Scheme::Gsrnp96
     }
 }
@@ -177,16 +298,24 @@ impl Gsrnp96 {
 #[derive(Clone, Copy)]
 pub struct Gdti96;
 
-impl Gdti96 {
-    pub const HEADER: u8 = 0x2C;
+impl Columns for Gdti96 {
+    const HEADER: u8 = 0x2C;
 
-    pub const BITS: usize = 96;
+    const BITS: usize = 96;
 
-    pub const WORDS: usize = (Gdti96::BITS + 15) / 16;
+    const PARTS: Parts = Parts::F(Body::Then(Table::D, Last::Integer(41)));
 
-    pub fn new() -> Scheme
-        ensures { result ≡ Scheme.Gdti96 }
-    {
+    ghost HEADER = { (about Scheme.Gdti96).header };
+
+    ghost BITS = { (about Scheme.Gdti96).bits };
+
+    ghost PARTS = { (about Scheme.Gdti96).parts };
+
+    ghost scheme = { Scheme.Gdti96 };
+
+    ghost listed = { refl };
+
+    fn new() -> Scheme {
         Scheme::Gdti96
     }
 }
@@ -194,16 +323,24 @@ impl Gdti96 {
 #[derive(Clone, Copy)]
 pub struct Gdti174;
 
-impl Gdti174 {
-    pub const HEADER: u8 = 0x3E;
+impl Columns for Gdti174 {
+    const HEADER: u8 = 0x3E;
 
-    pub const BITS: usize = 174;
+    const BITS: usize = 174;
 
-    pub const WORDS: usize = (Gdti174::BITS + 15) / 16;
+    const PARTS: Parts = Parts::F(Body::Then(Table::D, Last::String(119)));
 
-    pub fn new() -> Scheme
-        ensures { result ≡ Scheme.Gdti174 }
-    {
+    ghost HEADER = { (about Scheme.Gdti174).header };
+
+    ghost BITS = { (about Scheme.Gdti174).bits };
+
+    ghost PARTS = { (about Scheme.Gdti174).parts };
+
+    ghost scheme = { Scheme.Gdti174 };
+
+    ghost listed = { refl };
+
+    fn new() -> Scheme {
         Scheme::Gdti174
     }
 }
@@ -211,16 +348,24 @@ impl Gdti174 {
 #[derive(Clone, Copy)]
 pub struct Gid96;
 
-impl Gid96 {
-    pub const HEADER: u8 = 0x35;
+impl Columns for Gid96 {
+    const HEADER: u8 = 0x35;
 
-    pub const BITS: usize = 96;
+    const BITS: usize = 96;
 
-    pub const WORDS: usize = (Gid96::BITS + 15) / 16;
+    const PARTS: Parts = Parts::Integers(28, 24, 36);
 
-    pub fn new() -> Scheme
-        ensures { result ≡ Scheme.Gid96 }
-    {
+    ghost HEADER = { (about Scheme.Gid96).header };
+
+    ghost BITS = { (about Scheme.Gid96).bits };
+
+    ghost PARTS = { (about Scheme.Gid96).parts };
+
+    ghost scheme = { Scheme.Gid96 };
+
+    ghost listed = { refl };
+
+    fn new() -> Scheme {
         Scheme::Gid96
     }
 }
@@ -228,16 +373,24 @@ impl Gid96 {
 #[derive(Clone, Copy)]
 pub struct Gdti113;
 
-impl Gdti113 {
-    pub const HEADER: u8 = 0x3A;
+impl Columns for Gdti113 {
+    const HEADER: u8 = 0x3A;
 
-    pub const BITS: usize = 113;
+    const BITS: usize = 113;
 
-    pub const WORDS: usize = (Gdti113::BITS + 15) / 16;
+    const PARTS: Parts = Parts::F(Body::Then(Table::D, Last::Numeric(58, 17)));
 
-    pub fn new() -> Scheme
-        ensures { result ≡ Scheme.Gdti113 }
-    {
+    ghost HEADER = { (about Scheme.Gdti113).header };
+
+    ghost BITS = { (about Scheme.Gdti113).bits };
+
+    ghost PARTS = { (about Scheme.Gdti113).parts };
+
+    ghost scheme = { Scheme.Gdti113 };
+
+    ghost listed = { refl };
+
+    fn new() -> Scheme {
         Scheme::Gdti113
     }
 }
@@ -245,16 +398,24 @@ impl Gdti113 {
 #[derive(Clone, Copy)]
 pub struct Sgcn96;
 
-impl Sgcn96 {
-    pub const HEADER: u8 = 0x3F;
+impl Columns for Sgcn96 {
+    const HEADER: u8 = 0x3F;
 
-    pub const BITS: usize = 96;
+    const BITS: usize = 96;
 
-    pub const WORDS: usize = (Sgcn96::BITS + 15) / 16;
+    const PARTS: Parts = Parts::F(Body::Then(Table::D, Last::Numeric(41, 12)));
 
-    pub fn new() -> Scheme
-        ensures { result ≡ Scheme.Sgcn96 }
-    {
+    ghost HEADER = { (about Scheme.Sgcn96).header };
+
+    ghost BITS = { (about Scheme.Sgcn96).bits };
+
+    ghost PARTS = { (about Scheme.Sgcn96).parts };
+
+    ghost scheme = { Scheme.Sgcn96 };
+
+    ghost listed = { refl };
+
+    fn new() -> Scheme {
         Scheme::Sgcn96
     }
 }
@@ -262,16 +423,24 @@ impl Sgcn96 {
 #[derive(Clone, Copy)]
 pub struct Cpi96;
 
-impl Cpi96 {
-    pub const HEADER: u8 = 0x3C;
+impl Columns for Cpi96 {
+    const HEADER: u8 = 0x3C;
 
-    pub const BITS: usize = 96;
+    const BITS: usize = 96;
 
-    pub const WORDS: usize = (Cpi96::BITS + 15) / 16;
+    const PARTS: Parts = Parts::F(Body::Then(Table::Cpi, Last::Integer(31)));
 
-    pub fn new() -> Scheme
-        ensures { result ≡ Scheme.Cpi96 }
-    {
+    ghost HEADER = { (about Scheme.Cpi96).header };
+
+    ghost BITS = { (about Scheme.Cpi96).bits };
+
+    ghost PARTS = { (about Scheme.Cpi96).parts };
+
+    ghost scheme = { Scheme.Cpi96 };
+
+    ghost listed = { refl };
+
+    fn new() -> Scheme {
         Scheme::Cpi96
     }
 }

@@ -1,2 +1,3 @@
 -- The laws of the program's turns.
+pub mod Streams
 pub mod Runs

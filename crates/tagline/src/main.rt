@@ -4,7 +4,8 @@
 use replies::Program;
 use std::process::ExitCode;
 
-// Where a read or a write fails, a line on standard error says so, and so does the exit status.
+// Where a read or a write fails, a line on standard error says so, and so does the exit status. Each program is a `main` of its own, with its
+// own name in what it says.
 fn main(rt: HostRuntime) -> ExitCode {
     let stopped = sessions::run(
         Program::Tagline,

@@ -7,35 +7,38 @@ ghost use Rattle.numeral.specs.Numeral.{shortest};
 ghost use Rattle.rules.specs.BankNumbers.{numeric_in};
 ghost use Rattle.tens.specs.Numerics.{numeric_of, one_before};
 
+// The powers of ten up to the 17th.
+static POWERS: [u64; 18] = [
+    1,
+    10,
+    100,
+    1000,
+    10000,
+    100000,
+    1000000,
+    10000000,
+    100000000,
+    1000000000,
+    10000000000,
+    100000000000,
+    1000000000000,
+    10000000000000,
+    100000000000000,
+    1000000000000000,
+    10000000000000000,
+    100000000000000000,
+];
+
 // Ten to the power of a number of digits.
 pub fn power(digits: usize) -> u64
     requires { digits ≤ 17 }
     ensures { result ≡ 10 ^ digits }
 {
-    match digits {
-        0 => 1,
-        1 => 10,
-        2 => 100,
-        3 => 1000,
-        4 => 10000,
-        5 => 100000,
-        6 => 1000000,
-        7 => 10000000,
-        8 => 100000000,
-        9 => 1000000000,
-        10 => 10000000000,
-        11 => 100000000000,
-        12 => 1000000000000,
-        13 => 10000000000000,
-        14 => 100000000000000,
-        15 => 1000000000000000,
-        16 => 10000000000000000,
-        _ => 100000000000000000,
-    }
+    POWERS[digits]
 }
 
-// The digits of a numeric string: their value, and how many they are. Where there is none both are 0.
-#[derive(Drop)]
+// The digits of a numeric string: their value, and how many they are.
+#[derive(Clone, Copy)]
 pub struct Digits {
     pub value: u64,
     pub count: usize,
@@ -49,27 +52,19 @@ pub fn with_one(value: u64, count: usize) -> u64
     power(count) + value
 }
 
-// The digits behind the 1 of an integer, of which there are 1 to `most`. `one` goes up to the highest power of ten that is not above the
-// integer, the place of its first digit.
-pub fn behind_one(v: u64, most: usize) -> Digits
+// The digits behind the 1 of an integer, where they are 1 to `most`: the 1 stands at the highest power of ten that is not above the integer.
+pub fn behind_one(v: u64, most: usize) -> Option<Digits>
     requires { most ≤ 17 }
     ensures { result ≡ numeric_of (numeric_in most (shortest 10 v)) }
 {
-    let mut count = 0;
-    let mut one: u64 = 1;
-    while count < most {
-        if v < one * 10 {
-            break;
-        }
-        one = one * 10;
-        count += 1;
+    let count = v.checked_ilog10()? as usize;
+    if count == 0 || most < count {
+        return None;
     }
-    if count == 0 {
-        return Digits { value: 0, count: 0 };
-    }
+    let one = power(count);
     let value = v - one;
     if one <= value {
-        return Digits { value: 0, count: 0 };
+        return None;
     }
-    Digits { value, count }
+    Some(Digits { value, count })
 }

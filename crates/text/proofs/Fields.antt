@@ -1,7 +1,7 @@
 -- The control fields, written one after the other, and the colon behind them.
 use Prim.Native.Nat.{ℕ, zero, suc, ◌≤◌}
 use mathlib.Core.Path.{◌≡◌, refl}
-use mathlib.Core.List.{List, [], ◌∷◌, ◌++◌}
+use mathlib.Core.List.{[], ◌∷◌, ◌++◌}
 use mathlib.Core.Logic.{◌⊎◌, ⊎_elim}
 use native.Mathlib.Omega.{arith}
 use lib.Dec.{lit≤}
@@ -11,12 +11,13 @@ use Rattle.rules.specs.Bytes.{bytes, colon}
 use Rattle.rules.specs.declared.ControlName.{ControlName}
 use Rattle.rules.specs.declared.ControlName.TheVariants.{Umi, Att}
 use Rattle.rules.specs.ControlFields.{field_text, standing, fields_text, closed, control_text}
-use Rattle.digits.specs.Pieces.{Puts}
-use Rattle.digits.proofs.Joins.{nothing_put}
+use Rattle.digits.specs.declared.Output.{Output}
+use Rattle.digits.specs.Pieces.{Adds}
+use Rattle.digits.proofs.Joins.{nothing}
 
 -- a field that is zero, and one that is not
-pub zero_put : (f : ControlName) (v : ℕ) (s : List ℕ) (at : ℕ) → v ≡ 0 → Puts (standing f v) at s at s
-zero_put f v s at e = rw e (nothing_put s at)
+pub zero_adds : (f : ControlName) (v : ℕ) (w : Output) → v ≡ 0 → Adds w (standing f v) w
+zero_adds f v w e = rw e (nothing w)
 
 pub standing_is : (f : ControlName) (v : ℕ) → ¬ (v ≡ 0) → standing f v ≡ field_text f v
 standing_is f zero n = absurd (n refl)

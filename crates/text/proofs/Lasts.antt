@@ -2,127 +2,109 @@
 use Prim.Native.Nat.{ℕ, ◌-◌, ◌/◌, ◌≤◌, ◌<◌}
 use mathlib.Core.Path.{◌≡◌, refl, sym, ap, ◌∙◌}
 use mathlib.Core.Bool.{Bool, true, false, cond}
-use mathlib.Core.List.{List, [], ◌∷◌}
-use mathlib.Core.Option.{Option, none, some}
+use mathlib.Core.List.{List, []}
+use Rattle.std.specs.Prelude.{Option, None, Some, option_map}
 use native.Mathlib.Omega.{arith}
 use lib.Dec.{T, lit<}
-use lib.ListN.{length, drop, replicate, length-drop}
-use borrow.Author.Tests.{lt-ltb, le-leb, lt-leb}
+use lib.ListN.{length, drop, length-drop}
+use borrow.Author.Tests.{le-leb, lt-leb}
 use Rattle.numeral.specs.Numeral.{value}
-use Rattle.rules.specs.Answers.{Answer, refused, taken, ◌>>=◌}
+use Rattle.rules.specs.Answers.{Answer, refused, taken}
 use Rattle.rules.specs.declared.Table.{Table}
 use Rattle.rules.specs.declared.Last.{Last}
 use Rattle.rules.specs.declared.Last.TheVariants.{Integer, String, Numeric}
 use Rattle.rules.specs.Schemes.{Form, digits, integer, string, at_most, numeric, exact, counted, last_form}
 use Rattle.rules.specs.Grammar.{reference, end}
-use Rattle.rules.specs.TextNumbers.{characters_in, part_in, last_in, parts_in}
+use Rattle.rules.specs.TextNumbers.{last_in, parts_in}
 use Rattle.rules.proofs.Tests.{is_true}
 use Rattle.rules.proofs.Reading.{last_reads}
 use Rattle.digits.proofs.Texts.{length_text}
 use Rattle.alphabet.specs.declared.Spelled.{Spelled}
-use Rattle.alphabet.specs.Strings.{spelled_of}
-use Rattle.scheme.specs.Records.{last_number, last_characters, last_count, padded, refusal}
+use Rattle.alphabet.specs.Strings.{string_part, spelled_of}
+use Rattle.std.specs.Prelude.{Ok, Err}
+use Rattle.scheme.specs.declared.refusal.Refusal.{Refusal}
+use Rattle.scheme.specs.Refusals.{refusal}
+use Rattle.scheme.specs.Records.{last_number, last_characters, last_count}
 use Rattle.parts.specs.declared.parts.Form.{Form as CodeForm}
-use Rattle.parts.specs.Parts.{form_of, found_of, end_of}
-use Rattle.parts.specs.declared.parts.Part.TheVariants.{Wrong}
-use Rattle.parts.specs.declared.parts.End.{End}
-use Rattle.parts.specs.declared.parts.End.TheVariants.{Is, Refused}
+use Rattle.parts.specs.declared.parts.Part.{Part}
+use Rattle.parts.specs.Parts.{form_of, end_of}
 use Rattle.text.specs.declared.reading.Head.{Head}
-use Rattle.text.specs.Reading.{tagged, tagged_with, ended_by, referred, with_last, reference_alone, asset_alone}
-use Rattle.text.proofs.Found.{Standing, wrong, last_refused}
+use Rattle.text.specs.Reading.{tagged, tagged_with, referred, with_last}
+use Rattle.text.proofs.Found.{Standing, no_end, an_end}
 
 -- a reference, then a last part
-pub no_reference : (h : Head) (f : CodeForm) (l : Last) (text : List ℕ) (at p : ℕ) → Wrong p ≡ found_of at (part_in 0 at (form_of f) (drop at text))
-    → refusal 6 p ≡ with_last h l (parts_in at (referred (form_of f) (last_form l)) (drop at text))
-no_reference h f l text at p e = rw (wrong 6 f text at p e)
+module _ (h : Head) (f : CodeForm) (l : Last) (text : List ℕ) (at : ℕ) (p : Part) (s : Standing 6 f text at p) where
+  no_last : (n i : ℕ) → last_in 7 p.next (last_form l) (drop p.next text) ≡ refused n i → refusal n i ≡ with_last h l (parts_in at (referred (form_of f) (last_form l)) (drop at text))
+  no_last n i e = rw (s.read, sym s.rest, sym s.next, e)
 
-module _ (h : Head) (f : CodeForm) (l : Last) (text : List ℕ) (at v d m : ℕ) (s : Standing 6 f text at v d m) where
-  no_last : (n p : ℕ) → last_in 7 m (last_form l) (drop m text) ≡ refused n p → refusal n p ≡ with_last h l (parts_in at (referred (form_of f) (last_form l)) (drop at text))
-  no_last n p e = rw (s.read, sym s.rest, sym s.next, e)
-
-  with_last_lem : (q : List ℕ) → last_in 7 m (last_form l) (drop m text) ≡ taken q
-      → tagged h v (last_number l q) (last_characters l q) (last_count l q) ≡ with_last h l (parts_in at (referred (form_of f) (last_form l)) (drop at text))
+  with_last_lem : (q : List ℕ) → last_in 7 p.next (last_form l) (drop p.next text) ≡ taken q
+      → Ok (tagged h p.value (last_number l q) (last_characters l q) (last_count l q)) ≡ with_last h l (parts_in at (referred (form_of f) (last_form l)) (drop at text))
   with_last_lem q e = rw (s.value_is, s.read, sym s.rest, sym s.next, e)
 
   -- the same from what the code has read: digits that end the text, k of them where they are a numeric string
-  ended : (e : End) → e ≡ end_of (last_in 7 m (last_form l) (drop m text)) → (k : ℕ)
-      → ((q : List ℕ) → last_in 7 m (last_form l) (drop m text) ≡ taken q → tagged h v (value 10 q) [] k ≡ tagged h v (last_number l q) (last_characters l q) (last_count l q))
-      → ended_by h v e k ≡ with_last h l (parts_in at (referred (form_of f) (last_form l)) (drop at text))
-  ended e read k right = rw read (go (last_in 7 m (last_form l) (drop m text)) refl)
-    where
-      go : (a : Answer (List ℕ)) → last_in 7 m (last_form l) (drop m text) ≡ a → ended_by h v (end_of a) k ≡ with_last h l (parts_in at (referred (form_of f) (last_form l)) (drop at text))
-      go (refused n p) r = no_last n p r
-      go (taken q) r = right q r ∙ with_last_lem q r
+  pub not_ended : (r : Refusal) → Err r ≡ end_of (last_in 7 p.next (last_form l) (drop p.next text)) → Err r ≡ with_last h l (parts_in at (referred (form_of f) (last_form l)) (drop at text))
+  not_ended r e = let (n, i, q, x) = no_end (last_in 7 p.next (last_form l) (drop p.next text)) r e in ap Err x ∙ no_last n i q
+
+  ended : (v : ℕ) → Ok v ≡ end_of (last_in 7 p.next (last_form l) (drop p.next text)) → (k : ℕ)
+      → ((q : List ℕ) → last_in 7 p.next (last_form l) (drop p.next text) ≡ taken q → tagged h p.value (value 10 q) [] k ≡ tagged h p.value (last_number l q) (last_characters l q) (last_count l q))
+      → Ok (tagged h p.value v [] k) ≡ with_last h l (parts_in at (referred (form_of f) (last_form l)) (drop at text))
+  ended v e k right =
+      let (q, r, x) = an_end (last_in 7 p.next (last_form l) (drop p.next text)) v e in
+      ap (λ y. Ok (tagged h p.value y [] k)) x ∙ ap Ok (right q r) ∙ with_last_lem q r
 
 -- a numeric string has as many digits as the rest of the text has bytes
 all_of_it : (n i : ℕ) (u q : List ℕ) → last_in 7 i (numeric 0 n) u ≡ taken q → length u ≡ length q
 all_of_it n i u q e = let r = rw e at (last_reads 7 i (numeric 0 n) u (◌≡ i) (lit< tt) refl) in ap length r.1.1 ∙ length_text q
 
-module _ (h : Head) (f : CodeForm) (n : ℕ) (text : List ℕ) (at v d m : ℕ) (s : Standing 6 f text at v d m) (e : End) where
-  pub integer_ended : e ≡ end_of (last_in 7 m (integer n) (drop m text)) → ended_by h v e 0 ≡ with_last h (Integer n) (parts_in at (referred (form_of f) (integer n)) (drop at text))
-  integer_ended read = ended h f (Integer n) text at v d m s e read 0 λ q r. refl
+module _ (h : Head) (f : CodeForm) (n : ℕ) (text : List ℕ) (at : ℕ) (p : Part) (s : Standing 6 f text at p) (v : ℕ) where
+  pub integer_ended : Ok v ≡ end_of (last_in 7 p.next (integer n) (drop p.next text))
+      → Ok (tagged h p.value v [] 0) ≡ with_last h (Integer n) (parts_in at (referred (form_of f) (integer n)) (drop at text))
+  integer_ended read = ended h f (Integer n) text at p s v read 0 λ q r. refl
 
-  pub numeric_ended : e ≡ end_of (last_in 7 m (numeric 0 n) (drop m text)) → ended_by h v e (length text - m) ≡ with_last h (Numeric 0 n) (parts_in at (referred (form_of f) (numeric 0 n)) (drop at text))
+  pub numeric_ended : Ok v ≡ end_of (last_in 7 p.next (numeric 0 n) (drop p.next text))
+      → Ok (tagged h p.value v [] (length text - p.next)) ≡ with_last h (Numeric 0 n) (parts_in at (referred (form_of f) (numeric 0 n)) (drop at text))
   numeric_ended read =
-      ended h f (Numeric 0 n) text at v d m s e read (length text - m) λ q r.
-      ap (tagged h v (value 10 q) []) (sym (length-drop m text) ∙ all_of_it n m (drop m text) q r)
+      ended h f (Numeric 0 n) text at p s v read (length text - p.next) λ q r.
+      ap (tagged h p.value (value 10 q) []) (sym (length-drop p.next text) ∙ all_of_it n p.next (drop p.next text) q r)
 
 -- a string that is the last part
-module _ (b i : ℕ) (w : List ℕ) (s : Spelled) (e : s ≡ spelled_of (characters_in w)) where
-  string_none : s.count ≡ 0 → last_in 7 i (string b) w ≡ refused 7 i
-  string_none z = go (characters_in w) refl
+module _ (b i : ℕ) (w : List ℕ) where
+  string_none : None ≡ option_map spelled_of (string_part w) → last_in 7 i (string b) w ≡ refused 7 i
+  string_none e = go (string_part w) refl e
     where
-      go : (o : Option (List ℕ)) → characters_in w ≡ o → last_in 7 i (string b) w ≡ refused 7 i
-      go none q = rw q
-      go (some []) q = rw q
-      go (some (c ∷ cs)) q = let k = ap (λ x. x.count) e in absurd (omega (arith, rw q at k))
+      go : (o : Option (List ℕ)) → string_part w ≡ o → None ≡ option_map spelled_of o → last_in 7 i (string b) w ≡ refused 7 i
+      go None q e = rw q
+      go (Some cs) q e = let x : ◌≡◌ {A = ℕ} 0 1 = cc in absurd (omega arith)
 
-  string_long : ¬ (s.count ≡ 0) → b / 7 < s.count → last_in 7 i (string b) w ≡ refused 8 i
-  string_long n l = go (characters_in w) refl
+  string_read : (s : Spelled) → Some s ≡ option_map spelled_of (string_part w) → (cs : List ℕ) × (string_part w ≡ Some cs) × (s ≡ spelled_of cs)
+  string_read s e = go (string_part w) refl e
     where
-      go : (o : Option (List ℕ)) → characters_in w ≡ o → last_in 7 i (string b) w ≡ refused 8 i
-      go none q = absurd (n (ap (λ x. x.count) e ∙ rw q))
-      go (some cs) q =
-          let k : s.count ≡ length cs = ap (λ x. x.count) e ∙ rw q in
-          rw (q, lt-ltb 0 (length cs) (omega arith), lt-leb (length cs) (b / 7) (omega arith))
+      go : (o : Option (List ℕ)) → string_part w ≡ o → Some s ≡ option_map spelled_of o → (cs : List ℕ) × (string_part w ≡ Some cs) × (s ≡ spelled_of cs)
+      go None q e = let x : ◌≡◌ {A = ℕ} 0 1 = cc in absurd (omega arith)
+      go (Some cs) q e = (cs, q, cc)
 
-  string_taken : ¬ (s.count ≡ 0) → s.count ≤ b / 7 → (cs : List ℕ) × (last_in 7 i (string b) w ≡ taken cs) × (s.characters ≡ padded cs) × (s.count ≡ length cs)
-  string_taken n l = go (characters_in w) refl
-    where
-      go : (o : Option (List ℕ)) → characters_in w ≡ o → (cs : List ℕ) × (last_in 7 i (string b) w ≡ taken cs) × (s.characters ≡ padded cs) × (s.count ≡ length cs)
-      go none q = absurd (n (ap (λ x. x.count) e ∙ rw q))
-      go (some cs) q =
-          let k : s.count ≡ length cs = ap (λ x. x.count) e ∙ rw q in
-          (cs, rw (q, lt-ltb 0 (length cs) (omega arith), le-leb (length cs) (b / 7) (omega arith)), ap (λ x. x.characters) e ∙ rw q, k)
+  string_long : (cs : List ℕ) → string_part w ≡ Some cs → b / 7 < length cs → last_in 7 i (string b) w ≡ refused 8 i
+  string_long cs q l = rw (q, lt-leb (length cs) (b / 7) l)
+
+  string_taken : (cs : List ℕ) → string_part w ≡ Some cs → length cs ≤ b / 7 → last_in 7 i (string b) w ≡ taken cs
+  string_taken cs q l = rw (q, le-leb (length cs) (b / 7) l)
 
 -- and behind a reference
-module _ (h : Head) (f : CodeForm) (b : ℕ) (text : List ℕ) (at v d m : ℕ) (r : Standing 6 f text at v d m) (s : Spelled) (e : s ≡ spelled_of (characters_in (drop m text))) where
-  pub behind_none : s.count ≡ 0 → refusal 7 m ≡ with_last h (String b) (parts_in at (referred (form_of f) (string b)) (drop at text))
-  behind_none z = no_last h f (String b) text at v d m r 7 m (string_none b m (drop m text) s e z)
+module _ (h : Head) (f : CodeForm) (b : ℕ) (text : List ℕ) (at : ℕ) (p : Part) (r : Standing 6 f text at p) where
+  pub behind_none : None ≡ option_map spelled_of (string_part (drop p.next text)) → refusal 7 p.next ≡ with_last h (String b) (parts_in at (referred (form_of f) (string b)) (drop at text))
+  behind_none e = no_last h f (String b) text at p r 7 p.next (string_none b p.next (drop p.next text) e)
 
-  pub behind_long : ¬ (s.count ≡ 0) → b / 7 < s.count → refusal 8 m ≡ with_last h (String b) (parts_in at (referred (form_of f) (string b)) (drop at text))
-  behind_long n l = no_last h f (String b) text at v d m r 8 m (string_long b m (drop m text) s e n l)
+  module _ (s : Spelled) (e : Some s ≡ option_map spelled_of (string_part (drop p.next text))) where
+    pub behind_long : b / 7 < s.count → refusal 8 p.next ≡ with_last h (String b) (parts_in at (referred (form_of f) (string b)) (drop at text))
+    behind_long l =
+        let (cs, q, x) = string_read b p.next (drop p.next text) s e in
+        no_last h f (String b) text at p r 8 p.next (string_long b p.next (drop p.next text) cs q (rw x at l))
 
-  pub behind_taken : ¬ (s.count ≡ 0) → s.count ≤ b / 7 → tagged_with h v 0 s.characters s.count ≡ with_last h (String b) (parts_in at (referred (form_of f) (string b)) (drop at text))
-  behind_taken n l =
-      let (cs, q, x, y) = string_taken b m (drop m text) s e n l in
-      (λ i. tagged_with h v 0 (x i) (y i)) ∙ with_last_lem h f (String b) text at v d m r cs q
-
--- a reference that is the last part
-module _ (h : Head) where
-  abbrev one : Answer (List ℕ) → Answer (List (List ℕ))
-  one a = a >>= λ p. taken (p ∷ [])
-
-  pub alone : (v : ℕ) (a : Answer (List ℕ)) → Is v ≡ end_of a → tagged_with h v 0 (replicate 20 0) 0 ≡ reference_alone h (one a)
-  alone v (refused n p) e = let x : ◌≡◌ {A = ℕ} 0 1 = cc in absurd (omega arith)
-  alone v (taken p) e = ap (λ y. tagged_with h y 0 (replicate 20 0) 0) (let q : v ≡ value 10 p = cc in q)
-
-  pub not_alone : (m p : ℕ) (a : Answer (List ℕ)) → Refused m p ≡ end_of a → refusal m p ≡ reference_alone h (one a)
-  not_alone m p a e = rw (last_refused m p a e)
-
-  pub asset : (a : Answer (List ℕ)) (e : End) → e ≡ end_of a → ended_by h 0 e 0 ≡ asset_alone h (one a)
-  asset (refused n p) e r = rw r
-  asset (taken p) e r = rw r
+    pub behind_taken : s.count ≤ b / 7 → Ok (tagged_with h p.value 0 s.characters s.count) ≡ with_last h (String b) (parts_in at (referred (form_of f) (string b)) (drop at text))
+    behind_taken l =
+        let (cs, q, x) = string_read b p.next (drop p.next text) s e in
+        ap (λ (s : Spelled). Ok (tagged_with h p.value 0 s.characters s.count)) x
+        ∙ with_last_lem h f (String b) text at p r cs (string_taken b p.next (drop p.next text) cs q (rw x at l))
 
 -- the bits of a reference, and of a numeric string, play no part in the text
 row_read : (t : Table) (i b n : ℕ) (g : Form) (u : List ℕ) → parts_in i (referred (counted t 0 n) g) u ≡ parts_in i (referred (counted t b n) g) u

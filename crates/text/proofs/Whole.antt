@@ -1,6 +1,6 @@
 -- The parts of a scheme, from what is read of its head.
 use Prim.Native.Nat.{ℕ}
-use mathlib.Core.Path.{◌≡◌, refl, sym}
+use mathlib.Core.Path.{◌≡◌, refl, sym, ap, ◌∙◌}
 use mathlib.Core.List.{List, ◌∷◌}
 use lib.ListN.{length, drop}
 use Rattle.numeral.specs.Numeral.{value}
@@ -14,14 +14,17 @@ use Rattle.rules.specs.declared.Parts.TheVariants.{F, Integers}
 use Rattle.rules.specs.Schemes.{company, integer, about}
 use Rattle.rules.specs.Grammar.{body_layout, layout}
 use Rattle.rules.specs.TextNumbers.{part_in, parts_in}
-use Rattle.scheme.specs.Records.{record_of, refusal}
+use Rattle.std.specs.Prelude.{Err}
+use Rattle.scheme.specs.declared.refusal.Refusal.{Refusal}
+use Rattle.scheme.specs.Refusals.{refusal}
+use Rattle.scheme.specs.Records.{record_of}
 use Rattle.parts.specs.Parts.{found_of}
 use Rattle.parts.specs.declared.parts.Form.TheVariants.{Prefix}
 use Rattle.parts.specs.declared.parts.Form.TheVariants.{Integer as CodeInteger}
-use Rattle.parts.specs.declared.parts.Part.TheVariants.{Wrong}
+use Rattle.parts.specs.declared.parts.Part.{Part}
 use Rattle.text.specs.declared.reading.Head.{Head}
 use Rattle.text.specs.Reading.{referred, with_last, behind_prefix, read_as}
-use Rattle.text.proofs.Found.{Standing, wrong}
+use Rattle.text.proofs.Found.{Standing, no_part}
 
 abbrev pub head : ControlFields → Scheme → ℕ → ℕ → ℕ → Head
 head fields s f p d = record { scheme = s; control = fields; filter = f; prefix = p; digits = d }
@@ -47,26 +50,23 @@ joined_one fields s a b c e p (refused n i) = refl
 joined_one fields s a b c e p (taken ps) = rw e
 
 -- a filter and a company prefix
-module _ (fields : ControlFields) (s : Scheme) (body : Body) (e : (about s).parts ≡ F body) where
-  pub no_filter : (text : List ℕ) (at p : ℕ) → Wrong p ≡ found_of at (part_in 0 at (integer 3) (drop at text)) → refusal 4 p ≡ read_as fields s (parts_in at (layout s) (drop at text))
-  no_filter text at p h = rw (e, wrong 4 (CodeInteger 3) text at p h)
+module _ (fields : ControlFields) (s : Scheme) (body : Body) (e : (about s).parts ≡ F body) (text : List ℕ) (at : ℕ) where
+  module _ (a : Part) (f : Standing 4 (CodeInteger 3) text at a) where
+    refused_prefix : (n p : ℕ) → part_in 5 a.next company (drop a.next text) ≡ refused n p → refusal n p ≡ read_as fields s (parts_in at (layout s) (drop at text))
+    refused_prefix n p q = rw (e, f.read, sym f.rest, sym f.next, q)
 
-  module _ (text : List ℕ) (at v d m : ℕ) (f : Standing 4 (CodeInteger 3) text at v d m) where
-    pub no_prefix : (p : ℕ) → Wrong p ≡ found_of m (part_in 0 m company (drop m text)) → refusal 5 p ≡ read_as fields s (parts_in at (layout s) (drop at text))
-    no_prefix p h = rw (e, f.read, sym f.rest, sym f.next, wrong 5 Prefix text m p h)
+    pub no_prefix : (r : Refusal) → Err r ≡ found_of a.next (part_in 5 a.next company (drop a.next text)) → Err r ≡ read_as fields s (parts_in at (layout s) (drop at text))
+    no_prefix r h = let (n, p, q, x) = no_part a.next (part_in 5 a.next company (drop a.next text)) r h in ap Err x ∙ refused_prefix n p q
 
-    pub with_prefix : (w n k : ℕ) → Standing 5 Prefix text m w n k
-        → behind_prefix (head fields s v w n) body (parts_in k (body_layout body n) (drop k text)) ≡ read_as fields s (parts_in at (layout s) (drop at text))
-    with_prefix w n k q =
+    pub with_prefix : (b : Part) → Standing 5 Prefix text a.next b
+        → behind_prefix (head fields s a.value b.value b.digits) body (parts_in b.next (body_layout body b.digits) (drop b.next text)) ≡ read_as fields s (parts_in at (layout s) (drop at text))
+    with_prefix b q =
         rw (f.value_is, q.value_is, q.digits_are, e, f.read, sym f.rest, sym f.next, q.read, sym q.rest, sym q.next)
-        (joined_two fields s body e f.part q.part (parts_in k (body_layout body (length q.part)) (drop k text)))
+        (joined_two fields s body e f.part q.part (parts_in b.next (body_layout body (length q.part)) (drop b.next text)))
 
 -- gid-96's three integers
-module _ (fields : ControlFields) (s : Scheme) (a b c : ℕ) (e : (about s).parts ≡ Integers a b c) where
-  pub no_integer : (text : List ℕ) (at p : ℕ) → Wrong p ≡ found_of at (part_in 0 at (integer a) (drop at text)) → refusal 5 p ≡ read_as fields s (parts_in at (layout s) (drop at text))
-  no_integer text at p h = rw (e, wrong 5 (CodeInteger a) text at p h)
-
-  pub with_integer : (text : List ℕ) (at v d m : ℕ) → Standing 5 (CodeInteger a) text at v d m
-      → with_last (head fields s 0 v 0) (Integer c) (parts_in m (referred (integer b) (integer c)) (drop m text)) ≡ read_as fields s (parts_in at (layout s) (drop at text))
-  with_integer text at v d m f =
-      rw (f.value_is, e, f.read, sym f.rest, sym f.next) (joined_one fields s a b c e f.part (parts_in m (referred (integer b) (integer c)) (drop m text)))
+module _ (fields : ControlFields) (s : Scheme) (a b c : ℕ) (e : (about s).parts ≡ Integers a b c) (text : List ℕ) (at : ℕ) where
+  pub with_integer : (p : Part) → Standing 5 (CodeInteger a) text at p
+      → with_last (head fields s 0 p.value 0) (Integer c) (parts_in p.next (referred (integer b) (integer c)) (drop p.next text)) ≡ read_as fields s (parts_in at (layout s) (drop at text))
+  with_integer p f =
+      rw (f.value_is, e, f.read, sym f.rest, sym f.next) (joined_one fields s a b c e f.part (parts_in p.next (referred (integer b) (integer c)) (drop p.next text)))

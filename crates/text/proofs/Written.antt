@@ -27,9 +27,11 @@ use Rattle.scheme.specs.Outlines.{Narrow}
 use Rattle.scheme.specs.Records.{RecordIs, HasTag, Writes, record_of, padded}
 use Rattle.scheme.proofs.Widths.{parts_narrow}
 use Rattle.scheme.proofs.Shapes.{Partitioned, partitioned, reference_and_last, reference_alone_lem, asset_alone_lem, general}
-use Rattle.digits.proofs.Joins.{from_start}
-use Rattle.digits.specs.Pieces.{Puts}
-use Rattle.text.specs.Writing.{Company, HeldBehind, integer_text, number_text, body_text, integers_text}
+use Rattle.digits.proofs.Joins.{from_start, begun, then}
+use Rattle.std.specs.Borrow.{MutBor}
+use Rattle.digits.specs.declared.Output.{Output}
+use Rattle.digits.specs.Pieces.{Begins, Adds}
+use Rattle.text.specs.Writing.{Company, HeldBehind, integer_text, number_text, parts_text}
 
 -- A part that fits is the numeral of its value.
 whole : (b : ℕ) (p : List ℕ) → Fit (integer b) p → shortest 10 (value 10 p) ≡ p
@@ -52,11 +54,7 @@ length_padded cs = length-take-le 20 (cs ++ replicate 20 0) (rw length-append (o
 unpadded : (cs : List ℕ) → length cs ≤ 20 → take (length cs) (padded cs) ≡ cs
 unpadded cs h = take-take (length cs) 20 (cs ++ replicate 20 0) h ∙ take_at cs (replicate 20 0) (length cs) refl
 
--- the parts, by the record's values, and what the writers of the pieces ask of these
-abbrev pub parts_text : Parts → Record → List ℕ
-parts_text (F body) r = body_text body r
-parts_text (Integers a b c) r = integers_text r
-
+-- what the writers of the parts ask of a record's values
 abbrev pub Small : Parts → Record → Type 0
 Small (F body) r = Company r × HeldBehind body r
 Small (Integers a b c) r = Unit
@@ -141,5 +139,7 @@ pub control_fits : (r : Record) → HasTag r → ControlFits r.control
 unfolding record_of
 control_fits r t = rw (ap (λ x. x.control) t.is.same) t.is.fits.control
 
-pub writes : (r : Record) (p : Parts) {s t : List ℕ} {n : ℕ} → (about r.scheme).parts ≡ p → Puts ((start ++ (control_text r.control ++ label r.scheme)) ++ parts_text p r) 0 s n t → Writes text_of r s n t
-writes r p e h τ i = from_start (rw (← text_is r τ i p e) at h)
+-- The start and the parts, added to an output that was `o` before.
+module _ (r : Record) {o : MutBor (List ℕ)} {w v u : Output} (b : Begins o w) where
+  pub writes : Adds w (start ++ (control_text r.control ++ label r.scheme)) v → Adds v (parts_text (about r.scheme).parts r) u → Writes text_of r o.now u.at u.out.now
+  writes x y τ i = from_start (rw (← text_is r τ i (about r.scheme).parts refl) at (begun b (then x y)))

@@ -6,6 +6,8 @@ use Rattle.rules.specs.declared.Last.{Last}
 use Rattle.rules.specs.declared.Last.TheVariants.{Integer, String, Numeric}
 use Rattle.rules.specs.declared.Body.{Body}
 use Rattle.rules.specs.declared.Body.TheVariants.{Then, Zeros, E}
+use Rattle.rules.specs.declared.Parts.{Parts}
+use Rattle.rules.specs.declared.Parts.TheVariants.{F, Integers}
 use Rattle.rules.specs.Bytes.{dot, digits_text}
 use Rattle.rules.specs.Characters.{string_text}
 use Rattle.rules.specs.Schemes.{exact, cell, row_of}
@@ -41,6 +43,11 @@ body_text E r = company_text r ++ integer_text r.serial
 -- gid-96's three integers
 abbrev pub integers_text : Record → List ℕ
 integers_text r = integer_text r.prefix ++ dot ∷ (integer_text r.reference ++ dot ∷ integer_text r.serial)
+
+-- all parts
+abbrev pub parts_text : Parts → Record → List ℕ
+parts_text (F body) r = body_text body r
+parts_text (Integers a b c) r = integers_text r
 
 -- the filter is one digit, and the company prefix has 6 to 12
 pub record Company (r : Record) : Type 0 where

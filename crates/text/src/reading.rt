@@ -1,23 +1,24 @@
 // A text to the record of its tag, read left to right (document 01, "Numbers given, and when": 2 to 8; document 02, C-13: 20), with the
 // place of a refusal: each reader says where it began (C-12).
-ghost use Rattle.std.specs.Prelude.{◌≡◌, ◌≤◌, length, drop};
-ghost use Rattle.rules.specs.Schemes.{digits, integer, string, numeric, counted, row_of, cell, about as aboutOf};
+ghost use Rattle.std.specs.Prelude.{◌≡◌, ◌≤◌};
+ghost use Rattle.rules.specs.Schemes.{digits, integer, string, numeric, row_of, cell, about as aboutOf};
 ghost use Rattle.rules.specs.Grammar.{reference as referenceRole, last, end, body_layout, layout, start};
 ghost use Rattle.rules.specs.TextNumbers.{after, parts_in, named_tag, tag_of_text};
 ghost use Rattle.scheme.specs.Outlines.{Narrow};
 ghost use Rattle.scheme.specs.Records.{reading_of};
 ghost use Rattle.digits.specs.Starts.{begun};
 ghost use Rattle.parts.specs.Parts.{form_of, Short};
-ghost use Rattle.text.specs.Reading.{tagged_with, ended_by, referred, with_last, reference_alone, asset_alone, behind_prefix, read_as, controlled};
+ghost use Rattle.text.specs.Reading.{referred, with_last, reference_alone, asset_alone, behind_prefix, read_as, controlled, parts_of};
 
 use parts::{
-    Controlled, End, Form, Named, Part, control_at, digits_to_end, integer_to_end, name,
-    numeric_to_end, part_at,
+    Form, Rest, control_at, digits_to_end, integer_to_end, name, numeric_to_end, part_at,
+    reference_form,
 };
 use rules::{Body, ControlFields, Last, MOST_CHARACTERS, Parts, Scheme, Table};
 use scheme::outlines::about;
-use scheme::record::{Reading, Record, refused};
-use scheme::{refusal, rows};
+use scheme::record::{Reading, Record};
+use scheme::refusal::Rule;
+use scheme::rows;
 
 // How many characters `urn:epc:tag:` has.
 const START: usize = 12;
@@ -30,7 +31,7 @@ fn begins(text: &[u8]) -> bool
 }
 
 // What stands before the reference. For gid-96 `prefix` is its first integer, and `filter` and `digits` are 0.
-#[derive(Drop)]
+#[derive(Clone, Copy)]
 struct Head {
     scheme: Scheme,
     control: ControlFields,
@@ -39,107 +40,93 @@ struct Head {
     digits: usize,
 }
 
-fn tagged(
-    head: Head,
-    reference: u64,
-    serial: u64,
-    characters: [u8; MOST_CHARACTERS],
-    count: usize,
-) -> Reading
-    ensures { result ≡ tagged_with head reference serial characters count }
-{
-    let scheme = head.scheme;
-    let control = head.control;
-    Reading {
-        number: 0,
-        place: 0,
-        tag: Record {
-            scheme,
-            control,
-            filter: head.filter,
-            prefix: head.prefix,
-            digits: head.digits,
+impl Head {
+    ghost use Rattle.text.specs.Reading.{tagged_with};
+
+    // The record of a head, a reference and a last part: its number, or its characters; `count` says how many of these, or how many digits of a
+    // numeric string.
+    fn tagged(
+        self,
+        reference: u64,
+        serial: u64,
+        characters: [u8; MOST_CHARACTERS],
+        count: usize,
+    ) -> Record
+        ensures { result ≡ tagged_with self reference serial characters count }
+    {
+        Record {
+            scheme: self.scheme,
+            control: self.control,
+            filter: self.filter,
+            prefix: self.prefix,
+            digits: self.digits,
             reference,
             serial,
             characters,
             count,
-        },
+        }
     }
 }
 
-// The record of a head, a reference and the digits that end the text, `count` of them where they are a numeric string; or their refusal.
-fn ended(head: Head, reference: u64, end: End, count: usize) -> Reading
-    ensures { result ≡ ended_by head reference end count }
-{
-    match end {
-        End::Is(serial) => tagged(head, reference, serial, [0; MOST_CHARACTERS], count),
-        End::Refused(n, place) => refused(n, place),
-    }
-}
+// The characters of a last part that is no string.
+const NO_CHARACTERS: [u8; MOST_CHARACTERS] = [0; MOST_CHARACTERS];
 
 // A reference, then an integer.
-fn with_integer(text: &[u8], at: usize, head: Head, reference: Form, bits: usize) -> Reading
-    requires { (at ≤ length text.now) × Short reference × (bits ≤ 63) }
-    ensures { result ≡ with_last head (Last.Integer bits) (parts_in at (referred (form_of reference) (integer bits)) (drop at text.now)) }
+fn with_integer(rest: Rest<'_>, head: Head, reference: Form, bits: usize) -> Reading
+    requires { Short reference × (bits ≤ 63) }
+    ensures { result ≡ with_last head (Last.Integer bits) (parts_of rest.entry (referred (form_of reference) (integer bits))) }
 {
-    match part_at(text, at, reference) {
-        Part::Is(value, _, next) => ended(head, value, integer_to_end(text, next, bits), 0),
-        Part::Wrong(place) => refused(refusal::REFERENCE, place),
-    }
+    let part = part_at(rest, reference, Rule::Reference)?;
+    let serial = integer_to_end(rest.behind(part.next), bits)?;
+    Ok(head.tagged(part.value, serial, NO_CHARACTERS, 0))
 }
 
 // A reference, then a string.
-fn with_string(text: &[u8], at: usize, head: Head, reference: Form, bits: usize) -> Reading
-    requires { (at ≤ length text.now) × Short reference }
-    ensures { result ≡ with_last head (Last.String bits) (parts_in at (referred (form_of reference) (string bits)) (drop at text.now)) }
+fn with_string(rest: Rest<'_>, head: Head, reference: Form, bits: usize) -> Reading
+    requires { Short reference }
+    ensures { result ≡ with_last head (Last.String bits) (parts_of rest.entry (referred (form_of reference) (string bits))) }
 {
-    match part_at(text, at, reference) {
-        Part::Is(value, _, next) => {
-            let s = alphabet::read(text, next);
-            if s.count == 0 {
-                return refused(refusal::LAST_PART_FORM, next);
-            }
-            if bits / 7 < s.count {
-                return refused(refusal::LAST_PART_SIZE, next);
-            }
-            let characters = s.characters;
-            tagged(head, value, 0, characters, s.count)
-        }
-        Part::Wrong(place) => refused(refusal::REFERENCE, place),
+    let part = part_at(rest, reference, Rule::Reference)?;
+    let Some(s) = alphabet::read(&rest.text[part.next..]) else {
+        return Err(Rule::LastPartForm.at(part.next));
+    };
+    if bits / 7 < s.count {
+        return Err(Rule::LastPartSize.at(part.next));
     }
+    Ok(head.tagged(part.value, 0, s.characters, s.count))
 }
 
 // A reference, then a numeric string of at most so many digits. It has as many as the rest of the text has bytes.
-fn with_numeric(text: &[u8], at: usize, head: Head, reference: Form, most: usize) -> Reading
-    requires { (at ≤ length text.now) × Short reference × (most ≤ 19) }
-    ensures { result ≡ with_last head (Last.Numeric 0 most) (parts_in at (referred (form_of reference) (numeric 0 most)) (drop at text.now)) }
+fn with_numeric(rest: Rest<'_>, head: Head, reference: Form, most: usize) -> Reading
+    requires { Short reference × (most ≤ 19) }
+    ensures { result ≡ with_last head (Last.Numeric 0 most) (parts_of rest.entry (referred (form_of reference) (numeric 0 most))) }
 {
-    match part_at(text, at, reference) {
-        Part::Is(value, _, next) => {
-            let end = numeric_to_end(text, next, most);
-            ended(head, value, end, text.len() - next)
-        }
-        Part::Wrong(place) => refused(refusal::REFERENCE, place),
-    }
+    let part = part_at(rest, reference, Rule::Reference)?;
+    let serial = numeric_to_end(rest.behind(part.next), most)?;
+    Ok(head.tagged(
+        part.value,
+        serial,
+        NO_CHARACTERS,
+        rest.text.len() - part.next,
+    ))
 }
 
 // A reference of so many digits, to the end of the text.
-fn reference_alone(text: &[u8], at: usize, head: Head, reference: usize) -> Reading
-    requires { (at ≤ length text.now) × (reference ≤ 19) }
-    ensures { result ≡ reference_alone head (parts_in at (end referenceRole (digits 0 reference)) (drop at text.now)) }
+fn reference_alone(rest: Rest<'_>, head: Head, reference: usize) -> Reading
+    requires { reference ≤ 19 }
+    ensures { result ≡ reference_alone head (parts_of rest.entry (end referenceRole (digits 0 reference))) }
 {
-    match digits_to_end(text, at, reference) {
-        End::Is(value) => tagged(head, value, 0, [0; MOST_CHARACTERS], 0),
-        End::Refused(number, place) => refused(number, place),
-    }
+    let value = digits_to_end(rest, reference)?;
+    Ok(head.tagged(value, 0, NO_CHARACTERS, 0))
 }
 
 // The reference of table E, an integer, to the end of the text.
-fn asset_alone(text: &[u8], at: usize, head: Head, bits: usize) -> Reading
-    requires { (at ≤ length text.now) × (bits ≤ 63) }
-    ensures { result ≡ asset_alone head (parts_in at (end last (integer bits)) (drop at text.now)) }
+fn asset_alone(rest: Rest<'_>, head: Head, bits: usize) -> Reading
+    requires { bits ≤ 63 }
+    ensures { result ≡ asset_alone head (parts_of rest.entry (end last (integer bits))) }
 {
-    ended(head, 0, integer_to_end(text, at, bits), 0)
+    let serial = integer_to_end(rest, bits)?;
+    Ok(head.tagged(0, serial, NO_CHARACTERS, 0))
 }
 
 // The digits of the reference in the row that the prefix picks.
@@ -151,110 +138,84 @@ fn reference_digits(t: Table, prefix: usize) -> usize
     rows::reference(t, rows::by_digits(prefix)).digits
 }
 
-// How a reference of n digits is written: with exactly so many, or as an integer of at most so many in cpi-96's table.
-fn reference_form(t: Table, n: usize) -> Form
-    requires { n ≤ 19 }
-    ensures result_value { form_of result ≡ counted t 0 n }
-    ensures short { Short result }
-{
-    if rows::exact(t) {
-        return Form::Digits(n);
-    }
-    Form::AtMost(n)
-}
-
 // What follows the company prefix.
-fn behind_prefix(text: &[u8], at: usize, head: Head, body: Body) -> Reading
-    requires { (at ≤ length text.now) × Narrow (Parts.F body) × (6 ≤ head.digits) × (head.digits ≤ 12) }
-    ensures { result ≡ behind_prefix head body (parts_in at (body_layout body head.digits) (drop at text.now)) }
+fn behind_prefix(rest: Rest<'_>, head: Head, body: Body) -> Reading
+    requires { Narrow (Parts.F body) × (6 ≤ head.digits) × (head.digits ≤ 12) }
+    ensures { result ≡ behind_prefix head body (parts_of rest.entry (body_layout body head.digits)) }
 {
     let digits = head.digits;
     match body {
         Body::Then(t, l) => {
             let reference = reference_form(t, reference_digits(t, digits));
             match l {
-                Last::Integer(bits) => with_integer(text, at, head, reference, bits),
-                Last::String(bits) => with_string(text, at, head, reference, bits),
-                Last::Numeric(_, most) => with_numeric(text, at, head, reference, most),
+                Last::Integer(bits) => with_integer(rest, head, reference, bits),
+                Last::String(bits) => with_string(rest, head, reference, bits),
+                Last::Numeric(_, most) => with_numeric(rest, head, reference, most),
             }
         }
-        Body::Zeros(t, _) => reference_alone(text, at, head, reference_digits(t, digits)),
-        Body::E => asset_alone(text, at, head, rows::asset(rows::by_digits(digits))),
+        Body::Zeros(t, _) => reference_alone(rest, head, reference_digits(t, digits)),
+        Body::E => asset_alone(rest, head, rows::asset(rows::by_digits(digits))),
     }
 }
 
 // gid-96: three integers.
 fn general(
-    text: &[u8],
-    at: usize,
+    rest: Rest<'_>,
     control: ControlFields,
     s: Scheme,
     a: usize,
     b: usize,
     c: usize,
 ) -> Reading
-    requires { (at ≤ length text.now) × ((aboutOf s).parts ≡ Parts.Integers a b c) }
-    ensures { result ≡ read_as control s (parts_in at (layout s) (drop at text.now)) }
+    requires { (aboutOf s).parts ≡ Parts.Integers a b c }
+    ensures { result ≡ read_as control s (parts_of rest.entry (layout s)) }
 {
-    match part_at(text, at, Form::Integer(a)) {
-        Part::Is(prefix, _, next) => {
-            let head = Head {
-                scheme: s,
-                control,
-                filter: 0,
-                prefix,
-                digits: 0,
-            };
-            with_integer(text, next, head, Form::Integer(b), c)
-        }
-        Part::Wrong(place) => refused(refusal::PREFIX, place),
-    }
+    let part = part_at(rest, Form::Integer(a), Rule::Prefix)?;
+    let head = Head {
+        scheme: s,
+        control,
+        filter: 0,
+        prefix: part.value,
+        digits: 0,
+    };
+    with_integer(rest.behind(part.next), head, Form::Integer(b), c)
 }
 
 // The other schemes: the filter, the company prefix, and what follows it.
-fn partitioned(text: &[u8], at: usize, control: ControlFields, s: Scheme, body: Body) -> Reading
-    requires { (at ≤ length text.now) × ((aboutOf s).parts ≡ Parts.F body) }
-    ensures { result ≡ read_as control s (parts_in at (layout s) (drop at text.now)) }
+fn partitioned(rest: Rest<'_>, control: ControlFields, s: Scheme, body: Body) -> Reading
+    requires { (aboutOf s).parts ≡ Parts.F body }
+    ensures { result ≡ read_as control s (parts_of rest.entry (layout s)) }
 {
-    match part_at(text, at, Form::Integer(3)) {
-        Part::Is(filter, _, behind) => match part_at(text, behind, Form::Prefix) {
-            Part::Is(prefix, digits, next) => {
-                let head = Head {
-                    scheme: s,
-                    control,
-                    filter,
-                    prefix,
-                    digits,
-                };
-                behind_prefix(text, next, head, body)
-            }
-            Part::Wrong(place) => refused(refusal::PREFIX, place),
-        },
-        Part::Wrong(place) => refused(refusal::FILTER, place),
-    }
+    let filter = part_at(rest, Form::Integer(3), Rule::Filter)?;
+    let prefix = part_at(rest.behind(filter.next), Form::Prefix, Rule::Prefix)?;
+    let head = Head {
+        scheme: s,
+        control,
+        filter: filter.value,
+        prefix: prefix.value,
+        digits: prefix.digits,
+    };
+    behind_prefix(rest.behind(prefix.next), head, body)
 }
 
-// The parts of a scheme, from index `at` on.
-fn parts_at(text: &[u8], at: usize, control: ControlFields, s: Scheme) -> Reading
-    requires { at ≤ length text.now }
-    ensures { result ≡ read_as control s (parts_in at (layout s) (drop at text.now)) }
+// The parts of a scheme.
+fn parts_at(rest: Rest<'_>, control: ControlFields, s: Scheme) -> Reading
+    ensures { result ≡ read_as control s (parts_of rest.entry (layout s)) }
 {
-    let p = about(s).parts;
-    match p {
-        Parts::Integers(a, b, c) => general(text, at, control, s, a, b, c),
-        Parts::F(body) => partitioned(text, at, control, s, body),
+    match about(s).parts {
+        Parts::Integers(a, b, c) => general(rest, control, s, a, b, c),
+        Parts::F(body) => partitioned(rest, control, s, body),
     }
 }
 
 // What follows the control fields: a scheme's name, and its parts.
-fn named_at(text: &[u8], at: usize, control: ControlFields) -> Reading
-    requires { at ≤ length text.now }
-    ensures { result ≡ reading_of (named_tag (controlled control at (drop at text.now))) }
+fn named_at(rest: Rest<'_>, control: ControlFields) -> Reading
+    ensures { result ≡ reading_of (named_tag (controlled control rest.entry)) }
 {
-    match name(text, at) {
-        Named::Is(s, next) => parts_at(text, next, control, s),
-        Named::Unlisted => refused(refusal::NAME, at),
-    }
+    let Some(named) = name(rest) else {
+        return Err(Rule::Name.at(rest.at));
+    };
+    parts_at(rest.behind(named.next), control, named.scheme)
 }
 
 // A text: its start, its control fields, its scheme's name, and its parts.
@@ -262,10 +223,9 @@ pub fn read(text: &[u8]) -> Reading
     ensures { result ≡ reading_of (tag_of_text text.now) }
 {
     if !begins(text) {
-        return refused(refusal::START, 0);
+        return Err(Rule::Start.at(0));
     }
-    match control_at(text, START) {
-        Controlled::By(control, next) => named_at(text, next, control),
-        Controlled::Wrong(place) => refused(refusal::CONTROL_FIELDS, place),
-    }
+    let rest = Rest::start(text).behind(START);
+    let fields = control_at(rest)?;
+    named_at(rest.behind(fields.next), fields.control)
 }

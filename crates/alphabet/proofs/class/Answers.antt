@@ -1,6 +1,7 @@
 -- The entry at the byte's place.
-use borrow.Author.Rules.{rules}
+use Rattle.std.proofs.Common.{arith}
+use Rattle.alphabet.proofs.Classes.{class_at}
 use Rattle.alphabet.proofs.class.Goals as goal
 
 pub returns : goal.returns
-returns c = let s = c.before in s.requires.entry s.args.c (search rules)
+returns c = class_at c.args.c (omega arith)

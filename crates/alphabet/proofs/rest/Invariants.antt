@@ -1,14 +1,13 @@
--- The invariant: what is counted from i on, with m counted already, is what is counted from `at` on.
+-- The invariant: what is counted of the text that is left, with m counted already, is what is counted of the whole text with n.
 use mathlib.Core.Path.{◌≡◌}
-use Prim.Native.Nat.{◌-◌, ◌≤◌}
-use lib.ListN.{length, drop}
+use Prim.Native.Nat.{◌+◌, ◌≤◌}
+use lib.ListN.{length}
 use Rattle.rules.specs.TextNumbers.{characters_in}
 use Rattle.alphabet.specs.Readers.{counted}
 use Rattle.alphabet.proofs.rest.Given as goal
 
-abbrev pub invariant-loop-i : goal.invariant-loop-i
-invariant-loop-i l =
-    (l.i ≤ length l.text) × (l.m ≤ l.i) × (counted l.m (characters_in (drop l.i l.text)) ≡ counted l.n (characters_in (drop l.at l.text)))
+abbrev pub invariant-loop-left : goal.invariant-loop-left
+invariant-loop-left l = (l.m + length l.left ≤ l.n + length l.text) × (counted l.m (characters_in l.left) ≡ counted l.n (characters_in l.text))
 
-abbrev pub decreases-loop-i : goal.decreases-loop-i
-decreases-loop-i l = length l.text - l.i
+abbrev pub decreases-loop-left : goal.decreases-loop-left
+decreases-loop-left l = length l.left

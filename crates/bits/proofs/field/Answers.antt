@@ -1,32 +1,21 @@
-use mathlib.Core.Path.{◌≡◌, ◌∙◌}
-use Prim.Native.Nat.{◌+◌, ◌-◌, ◌%◌}
+-- Each byte, and the bits behind the last, go on with the number (`byte_next`, `rest_next`).
+use mathlib.Core.Path.{◌∙◌}
 use native.Mathlib.Omega.{arith}
-use Rattle.bits.proofs.Pieces.{field_next, field_next_lt}
+use Rattle.bits.proofs.Pieces.{byte_next, rest_next}
 use Rattle.bits.proofs.field.Goals as goal
 
 pub joined-v-requires : goal.joined-v-requires
 joined-v-requires c =
-    let a = c.args in
-    let l = c.loop-done in
-    (omega arith, field_next_lt a.bank.now a.at l.done 8 l.v c.byte.result l.invariant.2 c.byte.ensures (omega arith) (omega arith))
+    (omega arith, (byte_next _ _ _ c.requires (omega arith) _ _ c.loop-b.invariant c.loop-b-test.true (c.type_inv.bank _).fits).1)
 
-pub loop-done-preserved : goal.loop-done-preserved
-loop-done-preserved c =
-    let a = c.args in
-    let l = c.loop-done in
-    let begins : (a.at + l.done) % 8 ≡ 0 = omega arith in
-    let next : (a.at + (l.done + 8)) % 8 ≡ 0 = omega arith in
-    (omega arith, omega arith, c.joined-v.ensures ∙ field_next a.bank.now a.at l.done 8 l.v c.byte.result l.invariant.2 c.byte.ensures (omega arith))
+pub loop-b-preserved : goal.loop-b-preserved
+loop-b-preserved c =
+    c.joined-v.ensures ∙ (byte_next _ _ _ c.requires (omega arith) _ _ c.loop-b.invariant c.loop-b-test.true (c.type_inv.bank _).fits).0
 
 pub joined-requires : goal.joined-requires
 joined-requires c =
-    let a = c.args in
-    let l = c.loop-done in
-    (omega arith, field_next_lt a.bank.now a.at l.done (a.width - l.done) l.v c.piece.result l.invariant.2 c.piece.ensures (omega arith) (omega arith))
+    (omega arith, (rest_next _ _ _ c.requires (omega arith) _ _ c.loop-b.invariant _ c.loop-b.auto.b-index-end c.loop-b-test.false c.piece-2.ensures).1)
 
 pub returns : goal.returns
 returns c =
-    let a = c.args in
-    let l = c.loop-done in
-    let all : l.done + (a.width - l.done) ≡ a.width = omega arith in
-    c.joined.ensures ∙ rw all at (field_next a.bank.now a.at l.done (a.width - l.done) l.v c.piece.result l.invariant.2 c.piece.ensures (omega arith))
+    c.joined.ensures ∙ (rest_next _ _ _ c.requires (omega arith) _ _ c.loop-b.invariant _ c.loop-b.auto.b-index-end c.loop-b-test.false c.piece-2.ensures).0

@@ -1,15 +1,11 @@
 -- No bits are the number 0; n bits of one byte are as `piece_is` says.
 use mathlib.Core.Path.{sym, ◌∙◌}
-use Prim.Native.Nat.{◌/◌}
 use native.Mathlib.Omega.{arith}
 use Rattle.bits.proofs.Pieces.{field_none, piece_is}
 use Rattle.bits.proofs.piece.Goals as goal
 
 pub returns-then-n-eq0 : goal.returns-then-n-eq0
 returns-then-n-eq0 c = rw c.if-n-eq0.true (sym (field_none c.args.bank.now c.args.at))
-
-pub overflow_cast-x : goal.overflow_cast-x
-overflow_cast-x c = omega (arith, c.type_inv.bank (c.args.at / 8))
 
 pub returns : goal.returns
 returns c =

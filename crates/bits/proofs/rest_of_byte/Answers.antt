@@ -17,9 +17,6 @@ mask k h =
     let all : 8 - k + k ≡ 8 = omega arith in
     ap (◌/ 2 ^ k) (rw all at (ones_split (8 - k) k)) ∙ digits_div (2 ^ (8 - k) - 1) (ones_lt k)
 
-pub overflow_cast-result : goal.overflow_cast-result
-overflow_cast-result c = omega (arith, c.type_inv.bank (c.args.at / 8))
-
 pub returns : goal.returns
 returns c =
     let s = c.args in

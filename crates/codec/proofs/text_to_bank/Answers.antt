@@ -1,94 +1,87 @@
 -- `text_to_bank` meets its contract: 21 comes before the text is read, the reading is the rules', 22 comes behind it, and what it gives is written.
+use Prim.Native.Nat.{ℕ, ◌≤◌}
 use mathlib.Core.Path.{◌≡◌, ap, ◌∙◌}
+use mathlib.Core.List.{List}
+use Rattle.std.specs.Prelude.{Ok, Err}
+use Rattle.std.proofs.lemmas.Result.{err_from_is_err_and}
 use Rattle.rules.specs.Answers.{taken}
 use Rattle.rules.specs.Grammar.{Tag, TagText}
-use Rattle.rules.specs.Coding.{bank_of, EnoughWords}
+use Rattle.rules.specs.Coding.{bank_of, most_words, EnoughWords}
 use Rattle.rules.specs.Conditions.{text_rules}
 use Rattle.rules.specs.TextNumbers.{tag_of_text}
 use Rattle.rules.specs.Calls.{bank_room, words_to_write, bank_of_text, text_to_bank}
 use Rattle.rules.proofs.TextReads.{tag_reads}
-use Rattle.scheme.specs.Records.{RecordIs}
-use Rattle.codec.specs.Answers.{words_or0}
-use Rattle.codec.proofs.Ends.{short, refuses, writes, read_refused, read_taken}
+use Rattle.scheme.specs.declared.record.Record.{Record}
+use Rattle.scheme.specs.Records.{RecordIs, reading_of}
+use Rattle.scheme.specs.declared.refusal.Rule.TheVariants.{TooManyWords}
+use Rattle.scheme.specs.Refusals.{by, in_code}
+use Rattle.codec.proofs.Ends.{short, refuses, writes, read_refused, read_taken, text_numbered}
 use Rattle.codec.proofs.AskedAnswers.{scheme_is, too_many, text_refused, too_few, enough_words}
 use Rattle.codec.proofs.text_to_bank.Goals as goal
-use Rattle.codec.proofs.text_to_bank.Goals.{After-read-reading, After-words_for-written, Else-out-lt-BANK_ROOM, Else-words-gt-MOST_WORDS, Else-written-eq0, Start}
 
 pub returns-then-out-lt-BANK_ROOM : goal.returns-then-out-lt-BANK_ROOM
 unfolding text_to_bank
-returns-then-out-lt-BANK_ROOM c = let x = c.args in short bank_room x.out.now (bank_of_text x.words x.text.now) c.if-out-lt-BANK_ROOM.true
+returns-then-out-lt-BANK_ROOM c = let x = c.args in rw c.at.ensures (short bank_room x.out.now (bank_of_text x.words x.text.now) c.if-out-lt-BANK_ROOM.true)
 
 pub returns-then-words-gt-MOST_WORDS : goal.returns-then-words-gt-MOST_WORDS
 unfolding text_to_bank
 returns-then-words-gt-MOST_WORDS c =
     let x = c.args in
-    refuses bank_room x.out.now c.if-out-lt-BANK_ROOM.false 21 0 (bank_of_text x.words x.text.now) (too_many x.words x.text.now c.if-words-gt-MOST_WORDS.true)
+    rw c.at-then-words-gt-MOST_WORDS.ensures (refuses bank_room x.out.now c.if-out-lt-BANK_ROOM.false (by TooManyWords 0) (bank_of_text x.words x.text.now) (too_many x.words x.text.now c.if-words-gt-MOST_WORDS.true))
 
--- the text is read, from the place where it is
-module _ (r : After-read-reading) where
-  abbrev most : Else-words-gt-MOST_WORDS
-  most = (goal.at.After-read-reading r).Else-words-gt-MOST_WORDS
-
-  abbrev room : Else-out-lt-BANK_ROOM
-  room = (goal.at.Else-words-gt-MOST_WORDS most).Else-out-lt-BANK_ROOM
-
-  abbrev begin : Start
-  begin = (goal.at.Else-out-lt-BANK_ROOM room).Start
-
-pub returns-then-number-ne0 : goal.returns-then-number-ne0
+pub returns-in_err-tag : goal.returns-in_err-tag
 unfolding text_to_bank
-returns-then-number-ne0 c =
-    let r = (goal.at.returns-then-number-ne0 c).After-read-reading in
-    let x = (begin r).args in
-    let e = read_refused (tag_of_text x.text.now) c.read-reading.result c.read-reading.ensures c.if-number-ne0.true in
-    refuses bank_room x.out.now (room r).if-out-lt-BANK_ROOM.false _ _ (bank_of_text x.words x.text.now) (text_refused x.words x.text.now (most r).if-words-gt-MOST_WORDS.false _ _ e)
+returns-in_err-tag c =
+    let x = c.args in
+    let t = x.text.now in
+    let r = c.in_err-tag.field-0.0 in
+    let p = err_from_is_err_and c.from_residual.result c.from_residual.ensures.1 in
+    let same : c.from_residual.result ≡ Err r = p.1 ∙ ap Err p.2 in
+    let e = read_refused (text_rules t) (text_numbered t) (TagText t) (tag_of_text t) (tag_reads t) r c.in_err-tag.ensures in
+    rw same (refuses bank_room x.out.now c.if-out-lt-BANK_ROOM.false r (bank_of_text x.words t) (text_refused x.words t c.if-words-gt-MOST_WORDS.false _ _ e))
 
--- and the words to write are known
-module _ (w : After-words_for-written) where
-  abbrev read : After-read-reading
-  read = (goal.at.After-words_for-written w).After-read-reading
+-- the tag that was read, and what its scheme and the words asked for say
+module _ (t : List ℕ) (r : Record) (read : Ok r ≡ reading_of (tag_of_text t)) where
+  tag : (τ : Tag) × (tag_of_text t ≡ taken τ) × RecordIs r τ
+  tag = read_taken (text_rules t) (text_numbered t) (TagText t) (tag_of_text t) (tag_reads t) (λ τ h. h.fits) r read
 
-  tag : (τ : Tag) × (tag_of_text (begin read).args.text.now ≡ taken τ) × RecordIs read.read-reading.result.tag τ
-  tag =
-      let t = (begin read).args.text.now in
-      read_taken (text_rules t) (TagText t) (λ τ h. h.fits) (tag_of_text t) (tag_reads t) read.read-reading.result read.read-reading.ensures w.if-number-ne0.false
+  of_tag : (W : ℕ) → in_code (words_to_write W r.scheme) ≡ in_code (words_to_write W tag.0.scheme)
+  of_tag W = ap (λ s. in_code (words_to_write W s)) (scheme_is r tag.0 tag.2)
 
-  words_are : w.words_for-written.result ≡ words_or0 (words_to_write (begin read).args.words tag.0.scheme)
-  words_are = w.words_for-written.ensures ∙ ap (λ s. words_or0 (words_to_write (begin read).args.words s)) (scheme_is _ tag.0 tag.2)
+  enough : (W : ℕ) → W ≤ most_words → (v : ℕ) → Ok v ≡ in_code (words_to_write W r.scheme)
+      → EnoughWords v tag.0.scheme × (bank_of_text W t ≡ taken (v, bank_of v tag.0))
+  enough W most v q = enough_words W t most tag.0 tag.1 v (q ∙ of_tag W)
 
-pub returns-then-written-eq0 : goal.returns-then-written-eq0
+pub returns-in_err-words : goal.returns-in_err-words
 unfolding text_to_bank
-returns-then-written-eq0 c =
-    let w = (goal.at.returns-then-written-eq0 c).After-words_for-written in
-    let r = read w in
-    let x = (begin r).args in
-    let (τ, e, _) = tag w in
-    refuses bank_room x.out.now (room r).if-out-lt-BANK_ROOM.false 22 0 (bank_of_text x.words x.text.now) (too_few x.words x.text.now (most r).if-words-gt-MOST_WORDS.false τ e _ (words_are w) c.if-written-eq0.true)
+returns-in_err-words c =
+    let x = c.args in
+    let t = x.text.now in
+    let q = c.in_ok-tag.ensures in
+    let (τ, a, i) = tag t c.in_ok-tag.tag q in
+    let r = c.in_err-words.field-0.0 in
+    let p = err_from_is_err_and c.from_residual-in_err-words.result c.from_residual-in_err-words.ensures.1 in
+    let same : c.from_residual-in_err-words.result ≡ Err r = p.1 ∙ ap Err p.2 in
+    rw same (refuses bank_room x.out.now c.if-out-lt-BANK_ROOM.false r (bank_of_text x.words t) (too_few x.words t c.if-words-gt-MOST_WORDS.false τ a r (c.in_err-words.ensures ∙ of_tag t _ q x.words)))
 
--- enough of them, of the text's scheme
-enough : (c : Else-written-eq0) → let w = (goal.at.Else-written-eq0 c).After-words_for-written in
-    let x = (begin (read w)).args in
-    let τ = (tag w).0 in
-    EnoughWords c.words_for-written.result τ.scheme × (bank_of_text x.words x.text.now ≡ taken (c.words_for-written.result, bank_of c.words_for-written.result τ))
-enough c =
-    let w = (goal.at.Else-written-eq0 c).After-words_for-written in
-    let x = (begin (read w)).args in
-    let (τ, e, _) = tag w in
-    enough_words x.words x.text.now (most (read w)).if-words-gt-MOST_WORDS.false τ e _ (words_are w) c.if-written-eq0.false
+pub write-length-requires-clause-has_tag : goal.write-length-requires-clause-has_tag
+write-length-requires-clause-has_tag c = let (τ, _, i) = tag c.args.text.now c.in_ok-tag.tag c.in_ok-tag.ensures in record { tag = τ; is = i }
 
-pub write-requires : goal.write-requires
-write-requires c =
-    let e = (goal.at.write-requires c).Else-written-eq0 in
-    let w = (goal.at.write-requires c).After-words_for-written in
-    let (τ, _, i) = tag w in
-    record { bank_room_in_bounds = (room (read w)).if-out-lt-BANK_ROOM.false; has_tag = record { tag = τ; is = i }; enough_words = rw (← scheme_is _ τ i) at (enough e).0 }
+pub write-length-requires-clause-enough_words : goal.write-length-requires-clause-enough_words
+write-length-requires-clause-enough_words c =
+    let x = c.args in
+    let t = x.text.now in
+    let q = c.in_ok-tag.ensures in
+    let (τ, _, i) = tag t _ q in
+    rw (← scheme_is _ τ i) at (enough t _ q x.words c.if-words-gt-MOST_WORDS.false c.in_ok-words.words c.in_ok-words.ensures).0
 
 pub returns : goal.returns
 unfolding text_to_bank
 returns c =
-    let e = (goal.at.returns c).Else-written-eq0 in
-    let w = (goal.at.returns c).After-words_for-written in
-    let x = (begin (read w)).args in
-    let (τ, _, i) = tag w in
-    let (n, o) = c.write.ensures τ i in
-    writes bank_room x.out.now (room (read w)).if-out-lt-BANK_ROOM.false c.words_for-written.result _ (bank_of_text x.words x.text.now) (enough e).1 _ _ n o
+    let x = c.args in
+    let t = x.text.now in
+    let q = c.in_ok-tag.ensures in
+    let (τ, _, i) = tag t c.in_ok-tag.tag q in
+    let W = c.in_ok-words.words in
+    let (n, o) = c.write-length.ensures τ i in
+    writes bank_room x.out.now c.if-out-lt-BANK_ROOM.false W _ (bank_of_text x.words t) (enough t _ q x.words c.if-words-gt-MOST_WORDS.false W c.in_ok-words.ensures).1 _ _ n o

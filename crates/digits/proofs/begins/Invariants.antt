@@ -1,12 +1,11 @@
--- The invariant: the first i bytes agree, so the answer is that of the rest. Bytes are the same where the numbers that they are are the same.
-use Prim.Native.Nat.{◌-◌, ◌≤◌}
-use mathlib.Core.Path.{◌≡◌}
-use lib.ListN.{length, drop}
+-- The invariant: the bytes so far are the same and the rest of the text begins with the rest of `start`, or the answer is no.
+use Rattle.std.proofs.Common.{◌≡◌, ◌≤◌, length}
+use mathlib.Core.Bool.{◌&&◌}
 use Rattle.rules.specs.TextNumbers.{after}
+use Rattle.digits.specs.Starts.{begun}
 use Rattle.digits.proofs.begins.Given as goal
 
-abbrev pub invariant-loop-i : goal.invariant-loop-i
-invariant-loop-i l = (l.i ≤ length l.start) × (length l.start ≤ length l.text) × (after l.start l.text ≡ after (drop l.i l.start) (drop l.i l.text))
-
-abbrev pub decreases-loop-i : goal.decreases-loop-i
-decreases-loop-i l = length l.start - l.i
+abbrev pub invariant-loop-x : goal.invariant-loop-x
+invariant-loop-x l =
+    (length l.x-iterator.a.rest.now ≤ length l.x-iterator.b.rest.now)
+    × (begun (after l.start l.text) ≡ l.same && begun (after l.x-iterator.a.rest.now l.x-iterator.b.rest.now))

@@ -1,23 +1,13 @@
--- The program stops for one of four reasons; where there is none, one more read was a turn of the session.
-use Rattle.std.proofs.Common.{arith}
-use mathlib.Core.Logic.{inl, inr}
-use borrow.Author.Tests.{not-true, not-false}
+-- Where a turn does not end the session, it was one more of it.
 use Rattle.sessions.proofs.Runs.{reads_on, stops}
 use Rattle.sessions.proofs.all_turns.Goals as goal
-use Rattle.sessions.proofs.all_turns.Goals.{then-after-via-then-after, then-after-via-else-after+then-not-after, then-after-via-else-after+else-not-after+then-not-after-2, then-after-via-else-after+else-not-after+else-not-after-2+then-reads}
 
-pub returns-then-after : goal.returns-then-after
-returns-then-after g c =
-    stops c.args.program c.loop-program.input c.one_turn-after.new.input c.one_turn-after.new.out c.loop-program.kept c.loop-program.reads c.loop-program.invariant
-    c.one_turn-after.result c.one_turn-after.ensures
-    (elim c.then-after.branch [
-      | then-after-via-then-after w ↦ inl w.if-after.true
-      | then-after-via-else-after+then-not-after w ↦ inr (inl (not-true _ w.if-not-after.true))
-      | then-after-via-else-after+else-not-after+then-not-after-2 w ↦ inr (inr (inl (not-true _ w.if-not-after-2.true)))
-      | then-after-via-else-after+else-not-after+else-not-after-2+then-reads w ↦ inr (inr (inr w.if-reads.true))
-    ])
+pub returns-in-Err : goal.returns-in-Err
+returns-in-Err g c =
+    let v = c.loop-reads in
+    stops c.args.program v.input v.out c.one_turn.new.input c.one_turn.new.out v.kept v.reads _ _ _ _ _ _ v.invariant c.in-Err.how c.in-Err.ensures
 
-pub loop-program-preserved : goal.loop-program-preserved
-loop-program-preserved g c =
-    reads_on c.args.program c.loop-program.input c.one_turn-after.new.input c.one_turn-after.new.out c.loop-program.kept c.loop-program.reads c.loop-program.invariant
-    c.one_turn-after.result c.one_turn-after.ensures (not-false _ c.if-not-after.false) c.if-after.false (omega arith)
+pub loop-reads-preserved : goal.loop-reads-preserved
+loop-reads-preserved g c =
+    let v = c.loop-reads in
+    reads_on c.args.program v.input v.out c.one_turn.new.input c.one_turn.new.out v.kept v.reads _ _ _ _ _ _ v.invariant c.in-Ok.n c.in-Ok.ensures

@@ -1,12 +1,8 @@
--- The invariant: v is the number of the first i characters.
+-- The invariant: v is the number of the characters so far.
 use mathlib.Core.Path.{◌≡◌}
-use Prim.Native.Nat.{◌-◌, ◌≤◌}
-use lib.ListN.{take, drop}
+use lib.ListN.{take}
 use Rattle.numeral.specs.Numeral.{value}
 use Rattle.bank.proofs.eights.joined.Given as goal
 
-abbrev pub invariant-loop-i : goal.invariant-loop-i
-invariant-loop-i l = (l.i ≤ l.n) × (l.v ≡ value 128 (take l.i (drop l.from l.characters)))
-
-abbrev pub decreases-loop-i : goal.decreases-loop-i
-decreases-loop-i l = l.n - l.i
+abbrev pub invariant-loop-c : goal.invariant-loop-c
+invariant-loop-c l = l.v ≡ value 128 (take l.c-index l.characters)

@@ -2,13 +2,14 @@
 use Prim.Native.Nat.{◌+◌, ◌-◌, ◌*◌, ◌/◌, ◌≤◌}
 use mathlib.Core.Path.{◌≡◌, ap, ◌∙◌}
 use native.Mathlib.Omega.{arith}
+use borrow.Author.Rules.{rules}
 use lib.ListN.{length, length-take, length-drop}
 use Rattle.numeral.specs.Numeral.{size}
 use Rattle.rules.specs.Raw.{afi}
-use Rattle.digits.proofs.Joins.{join, integer_put}
+use Rattle.digits.proofs.Joins.{then, begun, integer_end}
 use Rattle.bank.proofs.RawTexts.{few_words, long, pieces_fit, pieces_are}
 use Rattle.bank.proofs.raw.write.Goals as goal
-use Rattle.bank.proofs.raw.write.Goals.{After-byte-code, Start}
+use Rattle.bank.proofs.raw.write.Goals.{After-byte-code, After-decimal, Start}
 
 -- what is known of the bank: its words are few, they are there, and the pieces fit the output
 module _ (s : Start) where
@@ -21,39 +22,44 @@ module _ (s : Start) where
   fit : 12 + (size 10 (16 * s.args.words) + (length (afi s.args.bank.now) + (2 + 4 * s.args.words))) ≤ 145
   fit = pieces_fit s.args.bank.now s.args.words s.requires.0
 
-pub put_decimal-total-requires : goal.put_decimal-total-requires
-put_decimal-total-requires c =
-    let s = (goal.at.put_decimal-total-requires c).Start in
-    omega (arith, c.put_bytes-start.ensures.end, c.put_bytes-start.auto.out, fit s, c.requires.1)
+-- the start of the code
+code : (c : After-byte-code) → c.byte-code.result ≡ 2
+code c = c.byte-code.ensures ∙ ap (λ a. (a - 0x10) / 8) c.address.ensures
 
-pub put_afi-end-requires : goal.put_afi-end-requires
-put_afi-end-requires c =
-    let s = (goal.at.put_afi-end-requires c).Start in
-    (omega (arith, there s), omega (arith, c.put_decimal-total.ensures.value, c.put_decimal-total.auto.out, c.put_bytes-start.ensures.end, c.put_bytes-start.auto.out, few s, fit s, c.requires.1))
+-- where the output stands behind the decimal number, and that it is as long as the lent one
+behind_decimal : (c : After-decimal) → (c.decimal.new.self.at ≡ 12 + size 10 (16 * c.args.words)) × (length c.decimal.new.self.out.now ≡ length c.args.out.now)
+behind_decimal c = (
+  omega (arith, integer_end (16 * c.args.words) c.decimal.ensures, c.put.ensures.puts.end, c.new-w.ensures.start),
+  omega (arith, c.decimal.ensures.size, c.put.ensures.size, ap length c.new-w.ensures.bytes),
+)
 
 pub overflow_mul-words : goal.overflow_mul-words
 overflow_mul-words c = omega (arith, few (goal.at.overflow_mul-words c).Start)
 
--- the start of the code, and the end of its words
-code : (c : After-byte-code) → c.byte-code.result ≡ 2
-code c = c.byte-code.ensures ∙ ap (λ a. (a - 0x10) / 8) c.address.ensures
+pub decimal-requires : goal.decimal-requires
+decimal-requires c =
+    let s = (goal.at.decimal-requires c).Start in
+    omega (arith, c.put.ensures.puts.end, c.put.ensures.size, c.new-w.ensures.start, ap length c.new-w.ensures.bytes, fit s, c.requires.1)
 
-pub slice_bounds-put_field-end : goal.slice_bounds-put_field-end
-slice_bounds-put_field-end c =
-    let s = (goal.at.slice_bounds-put_field-end c).Start in
-    omega (arith, c.size-behind.ensures, there s)
+pub put_afi-requires : goal.put_afi-requires
+put_afi-requires c =
+    let s = (goal.at.put_afi-requires c).Start in
+    let (e, l) = behind_decimal (goal.at.put_afi-requires c).After-decimal in
+    (omega (arith, there s), omega (arith, e, l, few s, fit s, c.requires.1))
+
+pub size-behind-requires : goal.size-behind-requires
+size-behind-requires c = omega (arith, few (goal.at.size-behind-requires c).Start)
 
 pub put_field-requires : goal.put_field-requires
 put_field-requires c =
     let s = (goal.at.put_field-requires c).Start in
+    let (e, l) = behind_decimal (goal.at.put_field-requires c).After-decimal in
     simp (length-take, length-drop)
-    (omega (arith, code (goal.at.put_field-requires c).After-byte-code, c.size-behind.ensures, c.put_afi-end.ensures.end, c.put_afi-end.auto.out, c.put_decimal-total.ensures.value, c.put_decimal-total.auto.out, c.put_bytes-start.ensures.end, c.put_bytes-start.auto.out, few s, fit s, c.requires.1))
+    (omega (arith, code (goal.at.put_field-requires c).After-byte-code, c.size-behind.ensures, c.put_afi.ensures.puts.end, c.put_afi.ensures.size, e, l, few s, fit s, c.requires.1))
 
 pub returns : goal.returns
 returns c =
     let words = rw (code (goal.at.returns c).After-byte-code, c.size-behind.ensures) at c.put_field.ensures in
-    let decimal = integer_put (16 * c.args.words) c.put_decimal-total.ensures.value c.put_decimal-total.ensures.out_after in
-    pieces_are c.args.bank.now c.args.words c.requires.0 (join c.put_bytes-start.ensures (join decimal (join c.put_afi-end.ensures words)))
-
-pub size-behind-requires : goal.size-behind-requires
-size-behind-requires c = omega (arith, few (goal.at.size-behind-requires c).Start)
+    let pieces = then c.put.ensures (then c.decimal.ensures (then c.put_afi.ensures words)) in
+    let line = pieces_are c.args.bank.now c.args.words c.requires.0 (begun c.new-w.ensures pieces) in
+    record { end = line.end; bytes = search rules }

@@ -1,40 +1,32 @@
-use mathlib.Core.Path.{◌≡◌, sym, ◌∙◌}
+use Prim.Native.Nat.{◌+◌, ◌≤◌}
+use mathlib.Core.Path.{◌≡◌, ◌∙◌}
 use native.Mathlib.Omega.{arith}
-use borrow.Author.Rules.{rules}
-use lib.ListN.{length}
-use lib.Seq.{take_all}
-use Rattle.bank.specs.Reading.{groups_at}
-use Rattle.bank.proofs.Groups.{length_groups, length_stored, next_groups}
-use Rattle.fields.proofs.Steps.{behind, taken}
+use Rattle.fields.proofs.Readers.{number, on}
+use Rattle.bank.proofs.Groups.{Stored, next_groups, all_groups}
 use Rattle.bank.proofs.reading.groups.Goals as goal
-use Rattle.bank.proofs.reading.groups.Goals.{In-loop-i}
+use Rattle.bank.proofs.reading.groups.Goals.{After-split}
 
-twenty : (c : In-loop-i) → length c.loop-i.groups ≡ 20
-twenty c =
+-- n more are stored
+stored : (c : After-split) → c.loop-i.i + c.min-n.result ≤ c.args.k → let r = c.args.reader in Stored r.bank.now r.at.0 c.args.k (c.loop-i.i + c.min-n.result) c.split.new.out
+stored c more =
     let v = c.loop-i in
-    length_stored c.args.bank.now c.args.from.0 c.args.k v.i v.groups v.invariant.2 v.invariant.0 c.requires.most
+    let r = c.args.reader in
+    c.split.ensures ∙ rw (number v.invariant.1 _ c.take-next.ensures.number) (next_groups r.bank.now r.at.0 c.args.k c.requires.inside v.i c.min-n.result v.groups more c.requires.most v.invariant.2)
 
 pub loop-i-preserved : goal.loop-i-preserved
 loop-i-preserved c =
     let v = c.loop-i in
-    let b = c.args.bank.now in
-    let from = c.args.from.0 in (
-      search rules,
-      omega (arith, behind b v.at _ c.take-next.ensures, v.invariant.1),
-      c.split.ensures ∙ rw (taken b v.at _ c.take-next.ensures _ v.invariant.1) (next_groups b from c.args.k c.requires.inside v.i c.least-n.result v.groups (search rules) c.requires.most v.invariant.2),
-    )
+    let eight : c.min-n.result ≡ 8 = omega arith in
+    let next = on v.invariant.1 _ c.take-next.ensures.rest in
+    (omega arith, record { bank = next.bank; place = omega (arith, next.place) }, rw eight at (stored (goal.at.loop-i-preserved c).After-split (omega arith)))
 
 pub returns : goal.returns
 returns c =
     let v = c.loop-i in
-    let b = c.args.bank.now in
-    let from = c.args.from.0 in
-    let k = c.args.k in
-    let all : v.i ≡ k = omega arith in
-    rw (v.invariant.2, all, take_all k (groups_at b from k) (omega (arith, length_groups b from k)))
+    let all : v.i ≡ c.args.k = omega arith in
+    all_groups _ _ _ (rw all at v.invariant.2)
 
-pub slice_bounds-split-end : goal.slice_bounds-split-end
-slice_bounds-split-end c = sym (twenty (goal.at.slice_bounds-split-end c).In-loop-i)
-
-pub split-requires : goal.split-requires
-split-requires c = omega (arith, twenty (goal.at.split-requires c).In-loop-i)
+pub returns-2 : goal.returns-2
+returns-2 c =
+    let all : c.loop-i.i + c.min-n.result ≡ c.args.k = omega arith in
+    all_groups _ _ _ (rw all at (stored (goal.at.returns-2 c).After-split (omega arith)))

@@ -13,6 +13,3 @@ width c = c.asset-width.ensures ∙ ap (λ p. asset_bits (row_at p)) c.by_digits
 
 pub put_wide-requires : goal.put_wide-requires
 put_wide-requires c = (c.requires.0, rw (width (goal.at.put_wide-requires c).After-asset-width) (asset_wide c.requires.1))
-
-pub returns : goal.returns
-returns c = rw (width (goal.at.returns c).After-asset-width) at c.put_wide.ensures

@@ -16,6 +16,3 @@ width c = ap (λ k. k.bits) c.reference-cell.ensures ∙ ap (λ p. (cell c.args.
 pub push-requires : goal.push-requires
 push-requires c =
     rw (width (goal.at.push-requires c).After-reference-cell) (takes c.requires.0 (cell c.args.t (row_of c.args.tag.digits)).0 c.args.tag.reference (omega (arith, reference_narrow c.requires.1)) (reference_narrow c.requires.1) (reference_lt c.requires.1))
-
-pub returns : goal.returns
-returns c = rw (width (goal.at.returns c).After-reference-cell) at c.push.ensures

@@ -1,32 +1,25 @@
 -- Sixteen bits and eight more are the control word and the header.
-use Prim.Native.Nat.{◌+◌, ◌*◌}
-use mathlib.Core.List.{append_assoc}
-use native.Mathlib.Omega.{arith}
+use mathlib.Core.List.{◌++◌, append_assoc}
 use lib.Dec.{lit≤}
 use borrow.Author.Rules.{rules}
-use Rattle.numeral.specs.Numeral.{numeral}
-use Rattle.numeral.proofs.Values.{length_numeral, numeral_nil}
-use Rattle.bits.specs.Streams.{Streamed}
-use Rattle.bits.proofs.Streams.{takes, continued}
+use Rattle.numeral.proofs.Values.{length_numeral}
+use Rattle.rules.specs.Coding.{binary, control_bits}
+use Rattle.bits.specs.Streams.{Adds}
 use Rattle.bank.proofs.PackedBanks.{control_is}
+use Rattle.bank.proofs.Rooms.{takes, left, same_bits, then}
 use Rattle.bank.proofs.writing.put_start.Goals as goal
-use Rattle.bank.proofs.writing.put_start.Goals.{After-push-behind, Start}
+use Rattle.bank.proofs.writing.put_start.Goals.{After-push}
 
 -- the control word, from where the stream begins
-module _ (c : After-push-behind) where
-  abbrev begin : Start
-  begin = (goal.at.After-push-behind c).Start
-
-  control : let x = begin.args in Streamed x.out.now 0 (numeral 2 16 (x.words * 2048 + x.control.umi * 1024 + x.control.att)) c.push-behind.new.out c.push-behind.result
-  control = rw (numeral_nil 2 0) at c.push-behind.ensures
+control : (c : After-push) → Adds c.args.w.now (binary 5 c.args.words ++ control_bits c.args.control) c.push.new.self
+control c = same_bits c.push.ensures (control_is c.args.words c.args.control c.requires.2)
 
 pub push-requires : goal.push-requires
-push-requires c =
-    let p = (goal.at.push-requires c).After-push-behind in
-    takes (control p) 8 _ (lit≤ tt) (search rules) (rw length_numeral (omega (arith, (begin p).requires.0)))
+push-requires c = takes c.requires.0 16 _ (lit≤ tt) (lit≤ tt) (search rules)
+
+pub push-requires-2 : goal.push-requires-2
+push-requires-2 c =
+    takes (left c.push.ensures {m = 8} c.requires.0 (rw length_numeral (lit≤ tt))) 8 _ (lit≤ tt) (lit≤ tt) (search rules)
 
 pub returns : goal.returns
-returns c =
-    let o = (goal.at.returns c).After-push-behind in
-    let s = begin o in
-    rw (control_is s.args.words s.args.control s.requires.2, append_assoc) at (continued (control o) _ c.push.ensures)
+returns c = rw append_assoc at (then (control (goal.at.returns c).After-push) c.push-2.ensures)

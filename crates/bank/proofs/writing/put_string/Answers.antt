@@ -1,43 +1,36 @@
-use mathlib.Core.Path.{◌≡◌}
-use Prim.Native.Nat.{◌+◌, ◌≤◌}
+use Prim.Native.Nat.{◌≤◌}
+use mathlib.Core.Path.{◌≡◌, ap, ◌∙◌}
 use native.Mathlib.Omega.{arith}
-use lib.ListN.{length}
-use borrow.Author.Rules.{rules}
-use Rattle.bits.proofs.Streams.{kept}
-use Rattle.bank.proofs.PackedStrings.{none_yet, takes_next, some_more}
+use lib.ListN.{length, take}
+use Rattle.std.specs.Slice.Iter.{chunks_rest, chunks_size}
+use Rattle.bank.proofs.PackedStrings.{none_yet, some_digits, takes_next, some_more}
 use Rattle.bank.proofs.writing.put_string.Goals as goal
-use Rattle.bank.proofs.writing.put_string.Goals.{After-least-n}
+use Rattle.bank.proofs.writing.put_string.Goals.{In-Some}
 
--- the next ones are among the k
-inside : (c : After-least-n) → c.loop-i.i + c.least-n.result ≤ c.args.k
-inside c = search rules
+pub loop-some-init : goal.loop-some-init
+loop-some-init c =
+    let e = c.into_iter-some-iterator.ensures.into_iter_gives in
+    let size : chunks_size c.into_iter-some-iterator.result ≡ 8 = ap chunks_size e ∙ c.chunks-some-items.ensures.size in
+    let rest : chunks_rest c.into_iter-some-iterator.result ≡ take c.args.k c.args.characters = ap chunks_rest e ∙ c.chunks-some-items.ensures.rest in
+    (omega arith, tt, size, rw rest (none_yet c.args.characters c.args.k c.requires.0 c.requires.1 c.requires.2))
 
-among : (c : After-least-n) → c.loop-i.i + c.least-n.result ≤ length c.args.characters
-among c = omega (arith, inside c, c.well_formed.1.1.0, c.requires.2)
-
-pub loop-i-init : goal.loop-i-init
-loop-i-init c = (search rules, none_yet c.args.out.now c.args.characters c.requires.0 c.requires.1 c.requires.2)
-
-pub push-end-requires : goal.push-end-requires
-push-end-requires c =
-    let n = (goal.at.push-end-requires c).After-least-n in
-    let v = c.loop-i in
-    rw c.joined.ensures (takes_next c.args.out.now c.args.characters c.requires.0 c.requires.1 c.requires.2 v.i c.least-n.result (inside n) (search rules) (among n) v.invariant.1)
-
-pub loop-i-preserved : goal.loop-i-preserved
-loop-i-preserved c =
-    let n = (goal.at.loop-i-preserved c).After-least-n in
-    let v = c.loop-i in
-    (search rules, some_more c.args.out.now c.args.characters c.requires.0 c.requires.1 c.requires.2 v.i c.least-n.result (inside n) (search rules) (among n) v.invariant.1 (rw c.joined.ensures at c.push-end.ensures))
-
-pub shape_of-out : goal.shape_of-out
-shape_of-out c = kept c.loop-i.invariant.1.written
-
-pub returns : goal.returns
-returns c =
-    let v = c.loop-i in
-    let all : v.i ≡ c.args.k = omega arith in
-    rw (← all) v.invariant.1
+few : (c : In-Some) → length c.in-Some.some.now ≤ 8
+few c = omega (arith, c.in-Some.ensures.steps.1.1, c.loop-some.invariant.2)
 
 pub joined-requires : goal.joined-requires
-joined-requires c = let n = (goal.at.joined-requires c).After-least-n in (search rules, among n, c.requires.1)
+joined-requires c =
+    let l = few (goal.at.joined-requires c).In-Some in
+    (l, some_digits c.args.characters c.args.k c.requires.0 c.requires.1 c.requires.2 _ _ l c.in-Some.ensures.steps.1.0 c.loop-some.invariant.3)
+
+pub push-requires : goal.push-requires
+push-requires c =
+    let l = few (goal.at.push-requires c).In-Some in
+    rw c.joined.ensures (takes_next c.args.characters c.args.k c.requires.0 c.requires.1 c.requires.2 _ _ l c.in-Some.ensures.steps.1.0 c.loop-some.invariant.3)
+
+pub loop-some-preserved : goal.loop-some-preserved
+loop-some-preserved c =
+    let l = few (goal.at.loop-some-preserved c).In-Some in
+    let steps = c.in-Some.ensures.steps in
+    let (_, _, size, so_far) = c.loop-some.invariant in
+    let next : chunks_size c.next.new.self ≡ 8 = steps.0 ∙ size in
+    (omega arith, tt, next, some_more c.args.characters c.args.k c.requires.0 c.requires.1 c.requires.2 _ _ l steps.1.0 so_far (rw c.joined.ensures at c.push.ensures))

@@ -1,5 +1,5 @@
 use Prim.Native.Nat.{ℕ, ◌+◌, ◌-◌, ◌*◌, ◌%◌, ◌^◌, ◌≤◌, ◌<◌}
-use mathlib.Core.Path.{◌≡◌, refl, sym, ap, ◌∙◌}
+use mathlib.Core.Path.{◌≡◌, sym, ap, ◌∙◌}
 use native.Mathlib.Omega.{arith}
 use mathlib.Core.List.{List}
 use lib.ListN.{length}
@@ -10,7 +10,7 @@ use Rattle.bits.specs.Bits.{field_at}
 use Rattle.scheme.specs.declared.counts.CodeBit.{CodeBit}
 use Rattle.fields.specs.BitReaders.{code_field, first_one}
 use Rattle.fields.proofs.Zeros.{zeros_within}
-use Rattle.fields.proofs.Ones.{passes, stops, none_left}
+use Rattle.fields.proofs.Ones.{passes, stops}
 use Rattle.fields.proofs.bitreader.first_one.Goals as goal
 use Rattle.fields.proofs.bitreader.first_one.Goals.{After-behind-at, After-index, After-rest_of_byte-value, Start}
 
@@ -91,30 +91,5 @@ loop-at-preserved c =
     let on = passes (bank b) (at b).0 (width b) (end b) l (inside p) (sym (value_is p) ∙ c.if-value-ne0.false) in
     (omega (arith, next_is c, l), so_far p ∙ on ∙ ap (λ n. first_one (bank b) n (end b)) (sym (next_is c)), omega (arith, next_is c, width_is b, index_is b))
 
-pub returns : goal.returns
-returns c =
-    let v = c.loop-at in
-    let x = c.args in
-    let all : v.at.0 ≡ x.end = omega arith in
-    all ∙ sym (v.invariant.1 ∙ ap (λ n. first_one x.bank.now n x.end) all ∙ none_left x.bank.now x.end)
-
-pub loop-at-init : goal.loop-at-init
-loop-at-init c = (c.requires.order, refl, refl)
-
-pub address-requires : goal.address-requires
-address-requires c = let l = c.before.before in omega (arith, l.requires.small, l.loop-at.invariant.0)
-
-pub index-requires : goal.index-requires
-index-requires c = omega (arith, c.address.ensures)
-
-pub rest_of_byte-value-requires : goal.rest_of_byte-value-requires
-rest_of_byte-value-requires c = omega (arith, index_is c, few c, (begin c).requires.inside)
-
 pub zeros_before-requires : goal.zeros_before-requires
 zeros_before-requires c = let p = (goal.at.zeros_before-requires c).After-rest_of_byte-value in (value_fits p, omega (arith, few (byte p)))
-
-pub behind-at-requires : goal.behind-at-requires
-behind-at-requires c = let b = byte (goal.at.behind-at-requires c).After-rest_of_byte-value in omega (arith, few b, (begin b).requires.small)
-
-pub loop-at-smaller : goal.loop-at-smaller
-loop-at-smaller c = omega (arith, next_is c, few (byte (read c)))

@@ -8,6 +8,3 @@ overflow_cast-result c = omega (arith, c.field_at.ensures, at_lt c.args.bank.now
 
 pub overflow_cast-result-2 : goal.overflow_cast-result-2
 overflow_cast-result-2 c = omega (arith, c.field_at-2.ensures, at_lt c.args.bank.now 0x18 8)
-
-pub returns : goal.returns
-returns c = rw (← c.field_at.ensures, ← c.field_at-2.ensures)

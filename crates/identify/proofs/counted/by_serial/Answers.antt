@@ -1,76 +1,70 @@
 -- An integer, or so many characters.
-use Prim.Native.Nat.{ℕ, zero, suc, ◌/◌, ◌≤◌, ◌<◌}
-use mathlib.Core.Path.{◌≡◌, refl, sym, ap, ◌∙◌}
+use Prim.Native.Nat.{ℕ, ◌/◌, ◌≤◌, ◌<◌}
+use mathlib.Core.Path.{◌≡◌, sym, ap, ◌∙◌}
 use mathlib.Core.Bool.{true, false}
 use mathlib.Core.List.{List}
-use native.Mathlib.Omega.{arith}
-use lib.ListN.{drop}
+use lib.ListN.{length}
 use borrow.Author.Tests.{le-leb, lt-leb}
+use Rattle.std.specs.Prelude.{Some, None, Err, option_map}
+use Rattle.std.proofs.lemmas.Result.{err_from_is_err_and}
 use Rattle.rules.specs.declared.Scheme.{Scheme}
 use Rattle.rules.specs.Schemes.{integer}
 use Rattle.rules.specs.Schemes.{about as aboutScheme}
-use Rattle.rules.specs.TextNumbers.{characters_in}
-use Rattle.alphabet.specs.Strings.{count_of}
-use Rattle.identify.specs.declared.counted.Verdict.TheVariants.{WrongText, Unheld}
-use Rattle.identify.specs.Words.{fitting, by_row, last_bits, by_count, by_serial}
+use Rattle.alphabet.specs.Strings.{string_part}
+use Rattle.identify.specs.declared.counted.Fault.TheVariants.{WrongText, Unheld}
+use Rattle.identify.specs.Words.{fitting, by_row, last_bits, by_serial}
+use Rattle.identify.proofs.Verdicts.{the_fault}
 use Rattle.identify.proofs.counted.by_serial.Goals as goal
-use Rattle.identify.proofs.counted.by_serial.Goals.{After-is_integer}
+use Rattle.identify.proofs.counted.by_serial.Goals.{After-is_integer, Else-is_integer}
 
 module _ (n : ℕ) (s l : Scheme) (z : List ℕ) where
   an_integer : fitting (integer (last_bits (aboutScheme s).parts)) z ≡ true → by_row n s ≡ by_serial n s l z
   an_integer e = rw e
 
-  module _ (e : fitting (integer (last_bits (aboutScheme s).parts)) z ≡ false) (k : ℕ) (is : k ≡ count_of (characters_in z)) where
-    no_characters : k ≡ 0 → WrongText ≡ by_serial n s l z
-    no_characters h = rw (e, sym is ∙ h)
+  module _ (e : fitting (integer (last_bits (aboutScheme s).parts)) z ≡ false) where
+    no_characters : None ≡ option_map length (string_part z) → Err WrongText ≡ by_serial n s l z
+    no_characters h = rw (e, sym h)
 
-    counted : (q : ℕ) → k ≡ suc q → by_count n (last_bits (aboutScheme l).parts / 7) l (suc q) ≡ by_serial n s l z
-    counted q h = rw (e, sym is ∙ h)
+    module _ (k : ℕ) (h : Some k ≡ option_map length (string_part z)) where
+      too_many : last_bits (aboutScheme l).parts / 7 < k → Err Unheld ≡ by_serial n s l z
+      too_many m = rw (e, sym h, lt-leb k (last_bits (aboutScheme l).parts / 7) m)
 
-    too_many : ¬ (k ≡ 0) → last_bits (aboutScheme l).parts / 7 < k → Unheld ≡ by_serial n s l z
-    too_many h m = go k refl
-      where
-        go : (q : ℕ) → k ≡ q → Unheld ≡ by_serial n s l z
-        go zero h' = absurd (h h')
-        go (suc q) h' = rw (lt-leb (suc q) (last_bits (aboutScheme l).parts / 7) (omega arith)) at (counted q h')
-
-    enough : ¬ (k ≡ 0) → k ≤ last_bits (aboutScheme l).parts / 7 → by_row n l ≡ by_serial n s l z
-    enough h m = go k refl
-      where
-        go : (q : ℕ) → k ≡ q → by_row n l ≡ by_serial n s l z
-        go zero h' = absurd (h h')
-        go (suc q) h' = rw (le-leb (suc q) (last_bits (aboutScheme l).parts / 7) (omega arith)) at (counted q h')
+      enough : k ≤ last_bits (aboutScheme l).parts / 7 → by_row n l ≡ by_serial n s l z
+      enough m = rw (e, sym h, le-leb k (last_bits (aboutScheme l).parts / 7) m)
 
 -- whether it is an integer, from the place where that is asked
-judged : (c : After-is_integer) → let a = c.args in c.is_integer.result ≡ fitting (integer (last_bits (aboutScheme a.s).parts)) (drop a.at a.x.now)
+judged : (c : After-is_integer) → let a = c.args in c.is_integer.result ≡ fitting (integer (last_bits (aboutScheme a.s).parts)) a.x.now
 judged c =
     let a = c.args in
-    c.is_integer.ensures ∙ ap (λ b. fitting (integer b) (drop a.at a.x.now)) c.last_bits.ensures
+    c.is_integer.ensures ∙ ap (λ b. fitting (integer b) a.x.now) c.last_bits.ensures
+
+no_integer : (c : Else-is_integer) → let a = c.args in fitting (integer (last_bits (aboutScheme a.s).parts)) a.x.now ≡ false
+no_integer c = sym (judged (goal.at.Else-is_integer c).After-is_integer) ∙ c.if-is_integer.false
 
 pub is_integer-requires : goal.is_integer-requires
-is_integer-requires c = (c.requires.0, rw c.last_bits.ensures c.requires.1)
+is_integer-requires c = rw c.last_bits.ensures c.requires
 
 pub returns-then-is_integer : goal.returns-then-is_integer
 returns-then-is_integer c =
     let i = (goal.at.returns-then-is_integer c).After-is_integer in
     let a = c.args in
-    c.by_row.ensures ∙ an_integer a.n a.s a.l (drop a.at a.x.now) (sym (judged i) ∙ c.if-is_integer.true)
+    c.by_row.ensures ∙ an_integer a.n a.s a.l a.x.now (sym (judged i) ∙ c.if-is_integer.true)
 
-pub returns-then-count-eq0 : goal.returns-then-count-eq0
-returns-then-count-eq0 c =
-    let i = (goal.at.returns-then-count-eq0 c).After-is_integer in
+pub returns-in_err-count : goal.returns-in_err-count
+returns-in_err-count c =
     let a = c.args in
-    no_characters a.n a.s a.l (drop a.at a.x.now) (sym (judged i) ∙ c.if-is_integer.false) _ c.characters_in-count.ensures c.if-count-eq0.true
+    let p = err_from_is_err_and c.from_residual.result c.from_residual.ensures.1 in
+    rw (p.1, p.2, the_fault c.in_err-count.ensures.ok_part c.in_err-count.ensures.value)
+    (no_characters a.n a.s a.l a.x.now (no_integer (goal.at.returns-in_err-count c).Else-is_integer) (sym c.in_err-count.ensures.ok_part ∙ c.characters_in.ensures))
 
 pub returns-then-last_bits-count : goal.returns-then-last_bits-count
 returns-then-last_bits-count c =
-    let i = (goal.at.returns-then-last_bits-count c).After-is_integer in
     let a = c.args in
-    too_many a.n a.s a.l (drop a.at a.x.now) (sym (judged i) ∙ c.if-is_integer.false) _ c.characters_in-count.ensures c.if-count-eq0.false (rw (← c.last_bits-2.ensures) c.if-last_bits-count.true)
+    too_many a.n a.s a.l a.x.now (no_integer (goal.at.returns-then-last_bits-count c).Else-is_integer) _ (sym c.in_ok-count.ensures.ok_part ∙ c.characters_in.ensures)
+    (rw (← c.last_bits-2.ensures) c.if-last_bits-count.true)
 
 pub returns : goal.returns
 returns c =
-    let i = (goal.at.returns c).After-is_integer in
     let a = c.args in
     c.by_row-2.ensures
-    ∙ enough a.n a.s a.l (drop a.at a.x.now) (sym (judged i) ∙ c.if-is_integer.false) _ c.characters_in-count.ensures c.if-count-eq0.false (rw (← c.last_bits-2.ensures) c.if-last_bits-count.false)
+    ∙ enough a.n a.s a.l a.x.now (no_integer (goal.at.returns c).Else-is_integer) _ (sym c.in_ok-count.ensures.ok_part ∙ c.characters_in.ensures) (rw (← c.last_bits-2.ensures) c.if-last_bits-count.false)

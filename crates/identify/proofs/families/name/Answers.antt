@@ -1,27 +1,17 @@
-use mathlib.Core.Path.{refl, sym, ◌∙◌}
-use borrow.Author.Rules.{rules}
+-- The first family that is named is found.
+use mathlib.Core.Path.{sym, ◌∙◌}
+use Rattle.identities.specs.declared.Family.TheVariants.{Sgtin}
+use Rattle.identities.specs.Families.{families}
 use Rattle.identify.proofs.Names.{here, past, nobody}
 use Rattle.identify.proofs.families.name.Goals as goal
 
-pub returns-then-is_named : goal.returns-then-is_named
-returns-then-is_named c =
-    let v = c.loop-i in
-    let text = c.args.text.now in
-    let f = c.family_at-f.ensures in
-    rw (c.label_length.ensures, f, v.invariant.1) (here text v.i c.loop-i-test.true (rw (← f) (sym c.is_named.ensures ∙ c.if-is_named.true)))
+pub returns-then-begins : goal.returns-then-begins
+unfolding families
+returns-then-begins c = rw c.loop-f.invariant (here c.args.text.now c.loop-f.f-index _ c.loop-f-test.true (rw (← c.label.ensures) (sym c.begins.ensures ∙ c.if-begins.true)))
 
-pub loop-i-preserved : goal.loop-i-preserved
-loop-i-preserved c =
-    let v = c.loop-i in
-    let text = c.args.text.now in
-    let f = c.family_at-f.ensures in
-    (search rules, v.invariant.1 ∙ past text v.i c.loop-i-test.true (rw (← f) (sym c.is_named.ensures ∙ c.if-is_named.false)))
+pub loop-f-preserved : goal.loop-f-preserved
+unfolding families
+loop-f-preserved c = c.loop-f.invariant ∙ past c.args.text.now c.loop-f.f-index Sgtin c.loop-f-test.true (rw (← c.label.ensures) (sym c.begins.ensures ∙ c.if-begins.false))
 
 pub returns : goal.returns
-returns c =
-    let v = c.loop-i in
-    let text = c.args.text.now in
-    rw (v.invariant.1, nobody text v.i c.loop-i-test.false)
-
-pub loop-i-init : goal.loop-i-init
-loop-i-init c = (search rules, refl)
+returns c = rw (c.loop-f.invariant, nobody c.args.text.now c.loop-f.f-index c.loop-f-test.false)

@@ -3,7 +3,7 @@ use mathlib.Core.Path.{◌≡◌, sym, ap, ◌∙◌}
 use native.Mathlib.Omega.{arith}
 use lib.ListN.{drop}
 use Rattle.identities.specs.declared.Component.TheVariants.{PaddedOrEmpty}
-use Rattle.identify.specs.declared.form.Before.TheVariants.{At}
+use Rattle.std.specs.Prelude.{Some}
 use Rattle.identify.specs.Words.{split_by}
 use Rattle.identify.proofs.Verdicts.{further, no_further, further_again, past, at_dot, at_digit, at_other}
 use Rattle.identify.proofs.form.digits_before.Goals as goal
@@ -12,10 +12,10 @@ pub returns-then-c-eq46 : goal.returns-then-c-eq46
 returns-then-c-eq46 c =
     let x = c.args.x.now in
     let e : c.loop-i.i ≡ c.loop-i.i + 0 = omega arith in
-    ap At e ∙ sym (c.loop-i.invariant ∙ ap (further c.loop-i.i) (at_dot x c.loop-i.i c.loop-i-test.true c.if-c-eq46.true))
+    ap Some e ∙ sym (c.loop-i.invariant ∙ ap (further c.loop-i.i) (at_dot x c.loop-i.i c.loop-i-test.true c.if-c-eq46.true))
 
-pub returns-after-loop-i : goal.returns-after-loop-i
-returns-after-loop-i c =
+pub returns : goal.returns
+returns c =
     sym (c.loop-i.invariant ∙ ap (further c.loop-i.i) (past c.args.x.now c.loop-i.i c.loop-i-test.false))
 
 pub returns-then-not-is_digit : goal.returns-then-not-is_digit

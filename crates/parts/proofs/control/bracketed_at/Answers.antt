@@ -1,27 +1,18 @@
 -- Each field is read where the one before it ends; then the text ends, or goes on with a colon or not.
 use Rattle.parts.proofs.FieldsInText.{umi_inside, text_ends, no_colon, a_colon}
 use Rattle.parts.proofs.control.bracketed_at.Goals as goal
+use Rattle.parts.proofs.control.bracketed_at.Goals.{then-rest-end-via-then-rest-end, then-rest-end-via-else-rest-end+then-rest-end-ne58}
 
-pub field_at-att-requires : goal.field_at-att-requires
-field_at-att-requires c = let s = c.before.before in umi_inside s.args.text.now s.args.at _ s.requires c.field_at-umi.ensures
+pub behind-requires : goal.behind-requires
+behind-requires c = umi_inside c.args.rest.text.now c.args.rest.at _ c.args.rest.inside c.field_at-umi.ensures
 
-pub returns-then-text-end : goal.returns-then-text-end
-returns-then-text-end c =
-    let second = c.before in
-    let first = second.before in
-    let s = first.before.before in
-    text_ends s.args.text.now s.args.at _ s.requires first.field_at-umi.ensures _ second.field_at-att.ensures c.if-text-end.true
-
-pub returns-then-text-end-ne58 : goal.returns-then-text-end-ne58
-returns-then-text-end-ne58 c =
-    let second = c.before.before.before in
-    let first = second.before in
-    let s = first.before.before in
-    no_colon s.args.text.now s.args.at _ s.requires first.field_at-umi.ensures _ second.field_at-att.ensures c.if-text-end.false c.if-text-end-ne58.true
+pub returns-then-rest-end : goal.returns-then-rest-end
+returns-then-rest-end c =
+    rw c.at.ensures
+    elim c.then-rest-end.branch [
+      | then-rest-end-via-then-rest-end w ↦ text_ends c.args.rest.text.now c.args.rest.at _ c.args.rest.inside c.field_at-umi.ensures _ (rw (c.behind.ensures.text, c.behind.ensures.at) at c.field_at-att.ensures) w.if-rest-end.true
+      | then-rest-end-via-else-rest-end+then-rest-end-ne58 w ↦ no_colon c.args.rest.text.now c.args.rest.at _ c.args.rest.inside c.field_at-umi.ensures _ (rw (c.behind.ensures.text, c.behind.ensures.at) at c.field_at-att.ensures) w.if-rest-end.false w.if-rest-end-ne58.true
+    ]
 
 pub returns : goal.returns
-returns c =
-    let second = c.before.before.before in
-    let first = second.before in
-    let s = first.before.before in
-    a_colon s.args.text.now s.args.at _ s.requires first.field_at-umi.ensures _ second.field_at-att.ensures c.if-text-end.false c.if-text-end-ne58.false
+returns c = a_colon c.args.rest.text.now c.args.rest.at _ c.args.rest.inside c.field_at-umi.ensures _ (rw (c.behind.ensures.text, c.behind.ensures.at) at c.field_at-att.ensures) c.if-rest-end.false c.if-rest-end-ne58.false

@@ -1,8 +1,11 @@
 -- Each name has its reader.
+use Rattle.parts.proofs.Controls.{field_is}
 use Rattle.parts.proofs.control.field_at.Goals as goal
+use Rattle.parts.proofs.control.field_at.Goals.{in-Umi, in-Att}
 
-pub returns-in-Umi : goal.returns-in-Umi
-returns-in-Umi c = rw c.in-Umi.is c.umi_at.ensures
-
-pub returns-in-Att : goal.returns-in-Att
-returns-in-Att c = rw c.in-Att.is c.att_at.ensures
+pub returns : goal.returns
+returns c =
+    elim c.match-name.branch [
+      | in-Umi w ↦ rw (w.in-Umi.is, c.unwrap_or.ensures, w.field-is, w.umi_at-field.ensures) (field_is _ c.args.rest.at _)
+      | in-Att w ↦ rw (w.in-Att.is, c.unwrap_or.ensures, w.field-is, w.att_at-field.ensures) (field_is _ c.args.rest.at _)
+    ]

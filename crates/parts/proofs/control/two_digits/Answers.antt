@@ -1,18 +1,11 @@
--- Each digit has a value below 16, or is none.
-use borrow.Author.Tests.{lt-ltb, le-ltb}
+-- Each digit is worth less than 16.
+use mathlib.Core.Path.{sym, ◌∙◌}
+use native.Mathlib.Omega.{arith}
+use Rattle.digits.proofs.Hexes.{digit_of_value}
 use Rattle.parts.proofs.control.two_digits.Goals as goal
 
-pub returns-then-high-ge16 : goal.returns-then-high-ge16
-returns-then-high-ge16 c = let high = c.hex_value-high in rw (← high.ensures, le-ltb high.result 16 c.if-high-ge16.true)
+pub overflow_mul-result : goal.overflow_mul-result
+overflow_mul-result c = omega (arith, (digit_of_value c.args.first c.in_ok-high.high (sym c.hex_value.ensures ∙ c.in_ok-high.was)).0)
 
-pub returns-then-low-ge16 : goal.returns-then-low-ge16
-returns-then-low-ge16 c =
-    let low = c.hex_value-low in
-    let high = c.hex_value-high in
-    rw (← high.ensures, ← low.ensures, lt-ltb high.result 16 c.if-high-ge16.false, le-ltb low.result 16 c.if-low-ge16.true)
-
-pub returns : goal.returns
-returns c =
-    let low = c.hex_value-low in
-    let high = c.hex_value-high in
-    rw (← high.ensures, ← low.ensures, lt-ltb high.result 16 c.if-high-ge16.false, lt-ltb low.result 16 c.if-low-ge16.false)
+pub overflow_add-result : goal.overflow_add-result
+overflow_add-result c = omega (arith, (digit_of_value c.args.first c.in_ok-high.high (sym c.hex_value.ensures ∙ c.in_ok-high.was)).0, (digit_of_value c.args.second c.in_ok-low.low (sym c.hex_value-2.ensures ∙ c.in_ok-low.was)).0)

@@ -1,6 +1,6 @@
 -- `by_key` meets its contract: each key is the rest of the name that its scheme alone has, and in the default there is no such scheme.
 use Prim.Native.Nat.{ℕ}
-use mathlib.Core.Path.{◌≡◌, sym, ap, ◌∙◌}
+use mathlib.Core.Path.{◌≡◌}
 use Rattle.std.proofs.Common.{arith}
 use Rattle.std.proofs.lemmas.Bool.Decides.{nat_tests}
 use lib.ListN.{length}
@@ -8,13 +8,13 @@ use Rattle.numeral.specs.Numeral.{value}
 use Rattle.rules.specs.declared.Scheme.{Scheme}
 use Rattle.rules.specs.declared.Scheme.TheVariants.{Sgtin96, Sgtin198, Sscc96, Sgln96, Sgln195, Grai96, Grai170, Giai96, Gsrn96, Gsrnp96, Gdti96, Gdti174, Gid96, Gdti113, Sgcn96, Cpi96}
 use Rattle.rules.specs.Schemes.{schemes}
+use Rattle.std.specs.Prelude.{Some}
 use Rattle.parts.specs.Names.{first_of, rest_of, key_of, keyed_by}
-use Rattle.parts.specs.declared.names.Keyed.TheVariants.{By}
 use Rattle.parts.proofs.Keys.{sound}
 use Rattle.parts.proofs.names.by_key.Goals as goal
 
-arm : (s r : Scheme) (k : ℕ) → r ≡ s → k ≡ key_of s → By r (first_of s) (length (rest_of s)) ≡ keyed_by k
-arm s r k e q = ap (λ x. By x (first_of s) (length (rest_of s))) e ∙ (sound s).own ∙ ap keyed_by (sym q)
+arm : (s r : Scheme) (k : ℕ) → r ≡ s → k ≡ key_of s → Some (record { 0 = r; 1 = first_of s; 2 = length (rest_of s) }) ≡ keyed_by k
+arm s r k e q = rw (e, q) (sound s).own
 
 pub returns-in-29119918770043190 : goal.returns-in-29119918770043190
 unfolding value

@@ -5,24 +5,19 @@ use native.Mathlib.Omega.{arith}
 use Rattle.parts.proofs.Ends.{integer_none, integer_behind, integer_end}
 use Rattle.parts.proofs.parts.integer_to_end.Goals as goal
 
-pub returns-then-end-at : goal.returns-then-end-at
-returns-then-end-at c =
-    let r = c.run_at-run in
-    let s = c.before.before.before in
-    integer_none s.args.text.now s.args.at r.result.end r.result.value r.ensures.end_value r.ensures.value_value s.args.bits c.if-end-at.true
+pub returns-then-run-eq0 : goal.returns-then-run-eq0
+returns-then-run-eq0 c =
+    let r = c.leading_digits-run in
+    rw c.at.ensures (integer_none c.args.rest.text.now c.args.rest.at r.result.length r.result.value r.ensures.length_value r.ensures.value_value c.args.bits c.if-run-eq0.true)
 
-pub returns-then-end-text : goal.returns-then-end-text
-returns-then-end-text c =
-    let b = c.before.before.before in
-    let r = b.run_at-run in
-    let s = b.before.before.before in
-    let some : s.args.at < r.result.end = omega (arith, r.ensures.end_value, b.if-end-at.false) in
-    c.longer.ensures ∙ integer_behind s.args.text.now s.args.at r.result.end r.result.value r.ensures.end_value r.ensures.value_value s.args.bits s.requires.1 some c.if-end-text.true
+pub returns-then-end-rest : goal.returns-then-end-rest
+returns-then-end-rest c =
+    let r = c.leading_digits-run in
+    let some : 0 < r.result.length = omega (arith, c.if-run-eq0.false) in
+    rw (c.at-then-end-rest.ensures, c.longer.ensures, c.behind.ensures.text, c.behind.ensures.at) (integer_behind c.args.rest.text.now c.args.rest.at r.result.length r.result.value r.ensures.length_value r.ensures.value_value c.args.bits c.requires some c.if-end-rest.true)
 
 pub returns : goal.returns
 returns c =
-    let b = c.before.before.before in
-    let r = b.run_at-run in
-    let s = b.before.before.before in
-    let some : s.args.at < r.result.end = omega (arith, r.ensures.end_value, b.if-end-at.false) in
-    c.shorter.ensures ∙ integer_end s.args.text.now s.args.at r.result.end r.result.value r.ensures.end_value r.ensures.value_value s.args.bits some c.if-end-text.false
+    let r = c.leading_digits-run in
+    let some : 0 < r.result.length = omega (arith, c.if-run-eq0.false) in
+    c.shorter.ensures ∙ integer_end c.args.rest.text.now c.args.rest.at r.result.length r.result.value r.ensures.length_value r.ensures.value_value c.args.bits some c.if-end-rest.false

@@ -1,51 +1,37 @@
 -- The text is written behind the letter; where the bank is refused, the output is as it was.
-use Prim.Native.Nat.{◌+◌, ◌-◌, ◌≤◌}
-use Prim.Native.Char.{code}
+use Prim.Native.Nat.{◌-◌}
 use mathlib.Core.Path.{◌≡◌, ap}
 use native.Mathlib.Omega.{arith}
-use lib.ListN.{length, set, length-set}
+use lib.ListN.{length}
 use borrow.Rule.Slice.PartMut.{put_mid}
-use Rattle.rules.specs.BankNumbers.{tag_of_bank}
-use Rattle.replies.specs.Replies.{space, of_bank, RefusedWith}
-use Rattle.replies.specs.Writing.{Wrote}
+use Rattle.replies.specs.Replies.{RefusedWith}
 use Rattle.replies.proofs.Screens.{text_shown, text_hidden}
+use Rattle.scheme.specs.Refusals.{number}
 use Rattle.replies.proofs.choice.bank_reply.Goals as goal
-use Rattle.replies.proofs.choice.bank_reply.Goals.{In-Refused, In-Written}
+use Rattle.replies.proofs.choice.bank_reply.Goals.{In-Err, In-Ok}
 
--- the text and the letter are written
-shown : (c : In-Written) → let n = c.in-Written.n in
-    let e = c.bank_to_text.new.out in
-    let l = c.args.out.now in
-    (n ≤ 116) × Wrote (of_bank c.args.bank.now (tag_of_bank c.args.bank.now)) l (n + 2) (set (set (put_mid 2 (length l - 2) l e) 0 (code "T")) 1 space)
-shown c =
-    let text = c.bank_to_text in
-    text_shown c.args.bank.now c.args.out.now text.new.out c.in-Written.n c.requires _ (rw c.in-Written.is at text.ensures)
-
-hidden : (c : In-Refused) → let n = c.in-Refused.number in
+hidden : (c : In-Err) → let n = number c.in-Err.refusal.rule in
     let e = c.bank_to_text.new.out in
     RefusedWith c.args.bank.now n × (put_mid 2 (length c.args.out.now - 2) c.args.out.now e ≡ c.args.out.now)
 hidden c =
     let text = c.bank_to_text in
-    text_hidden c.args.bank.now c.args.out.now text.new.out c.in-Refused.number c.requires _ (rw c.in-Refused.is at text.ensures)
+    text_hidden c.args.bank.now c.args.out.now text.new.out (number c.in-Err.refusal.rule) c.requires _ (rw c.in-Err.is at text.ensures)
 
 pub refused_reply-requires : goal.refused_reply-requires
 refused_reply-requires c =
-    let (a, e) = hidden (goal.at.refused_reply-requires c).In-Refused in
-    (a, omega (arith, ap length e, c.requires))
+    let (a, e) = hidden (goal.at.refused_reply-requires c).In-Err in
+    (rw c.number.ensures a, omega (arith, ap length e, c.requires))
 
-pub returns-in-Refused : goal.returns-in-Refused
-returns-in-Refused c =
-    let (a, e) = hidden (goal.at.returns-in-Refused c).In-Refused in
+pub returns-in-Err : goal.returns-in-Err
+returns-in-Err c =
+    let (a, e) = hidden (goal.at.returns-in-Err c).In-Err in
     rw e at c.refused_reply.ensures
 
-pub bounds-out-1 : goal.bounds-out-1
-bounds-out-1 c = simp length-set (omega arith)
+-- where it is written, it stands behind the place of its letter
+pub put_letter-requires : goal.put_letter-requires
+put_letter-requires c = let w = text_shown c.args.bank.now c.args.out.now c.bank_to_text.new.out c.in-Ok.written.length c.requires _ (rw c.in-Ok.is at c.bank_to_text.ensures) in omega (arith, w.0)
 
-pub overflow_add-result : goal.overflow_add-result
-overflow_add-result c = omega (arith, (shown c).0)
-
-pub shape_of-out-in-Written : goal.shape_of-out-in-Written
-shape_of-out-in-Written c = simp length-set (omega arith)
-
-pub returns-in-Written : goal.returns-in-Written
-returns-in-Written c = (shown c).1
+pub returns-in-Ok : goal.returns-in-Ok
+returns-in-Ok c =
+    let w = text_shown c.args.bank.now c.args.out.now c.bank_to_text.new.out c.in-Ok.written.length c.requires _ (rw c.in-Ok.is at c.bank_to_text.ensures) in
+    w.1 c.put_letter.result c.put_letter.new.out c.put_letter.ensures

@@ -1,48 +1,14 @@
--- The identity is written behind the letter; where the tag text is refused, the output is as it was.
-use Prim.Native.Nat.{◌+◌, ◌-◌, ◌≤◌}
-use Prim.Native.Char.{code}
-use mathlib.Core.Path.{◌≡◌}
+-- The identity stands behind the place of its letter.
 use native.Mathlib.Omega.{arith}
-use lib.ListN.{length, set, length-set}
-use borrow.Rule.Slice.PartMut.{put_mid}
-use Rattle.rules.specs.TextNumbers.{tag_of_text}
-use Rattle.replies.specs.Replies.{space, reply_n}
-use Rattle.replies.specs.Identities.{of_tag}
-use Rattle.replies.specs.Writing.{Wrote}
-use Rattle.replies.proofs.IdentityReplies.{identity_shown, identity_hidden}
+use Rattle.replies.proofs.IdentityReplies.{identity_shown}
 use Rattle.replies.proofs.identity.tag_reply.Goals as goal
-use Rattle.replies.proofs.identity.tag_reply.Goals.{In-Refused, In-Written}
 
--- the identity and the letter are written
-shown : (c : In-Written) → let n = c.in-Written.n in
-    let e = c.tag_to_identity.new.out in
-    let l = c.args.out.now in
-    (n ≤ 116) × Wrote (of_tag (tag_of_text c.args.line.now)) l (n + 2) (set (set (put_mid 2 (length l - 2) l e) 0 (code "I")) 1 space)
-shown c =
-    let call = c.tag_to_identity in
-    identity_shown c.args.out.now call.new.out c.in-Written.n c.requires c.args.line.now _ (rw c.in-Written.is at call.ensures)
+pub shown-requires : goal.shown-requires
+shown-requires c =
+    let call = c.tag_to_identity-answer in
+    (omega arith, omega (arith, (identity_shown c.args.out.now call.new.out c.args.line.now c.requires call.result call.ensures).0))
 
--- nothing is written
-hidden : (c : In-Refused) → let n = c.in-Refused.number in
-    let e = c.tag_to_identity.new.out in
-    (of_tag (tag_of_text c.args.line.now) ≡ reply_n n) × (put_mid 2 (length c.args.out.now - 2) c.args.out.now e ≡ c.args.out.now)
-hidden c =
-    let call = c.tag_to_identity in
-    identity_hidden c.args.out.now call.new.out c.in-Refused.number c.requires c.args.line.now _ (rw c.in-Refused.is at call.ensures)
-
-pub returns-in-Refused : goal.returns-in-Refused
-returns-in-Refused c =
-    let (a, e) = hidden (goal.at.returns-in-Refused c).In-Refused in
-    rw a (rw e at c.put_number.ensures)
-
-pub bounds-out-1 : goal.bounds-out-1
-bounds-out-1 c = simp length-set (omega arith)
-
-pub overflow_add-result : goal.overflow_add-result
-overflow_add-result c = omega (arith, (shown c).0)
-
-pub shape_of-out-in-Written : goal.shape_of-out-in-Written
-shape_of-out-in-Written c = simp length-set (omega arith)
-
-pub returns-in-Written : goal.returns-in-Written
-returns-in-Written c = (shown c).1
+pub returns : goal.returns
+returns c =
+    let call = c.tag_to_identity-answer in
+    (identity_shown c.args.out.now call.new.out c.args.line.now c.requires call.result call.ensures).1 c.shown.result c.shown.new.out c.shown.ensures

@@ -3,56 +3,50 @@ use Prim.Native.Nat.{◌≤◌}
 use mathlib.Core.Path.{sym, ◌∙◌}
 use lib.Dec.{leb, leb→le}
 use lib.ListN.{length}
+use Rattle.std.proofs.lemmas.Result.{err_from_is_err_and}
 use Rattle.rules.proofs.Tests.{both}
 use Rattle.scheme.proofs.Widths.{parts_narrow}
 use Rattle.parts.specs.declared.parts.Form.TheVariants.{Prefix, Integer}
 use Rattle.text.proofs.Found.{Standing, stands}
-use Rattle.text.proofs.Whole.{no_filter, no_prefix, with_prefix}
+use Rattle.text.proofs.Whole.{no_prefix, with_prefix}
 use Rattle.text.proofs.reading.partitioned.Goals as goal
-use Rattle.text.proofs.reading.partitioned.Goals.{In-Is, In-Is-part_at}
+use Rattle.text.proofs.reading.partitioned.Goals.{In_ok-filter, In_ok-prefix}
 
--- the filter and the company prefix, from the places where their names are
-filter : (c : In-Is) → let x = c.args in
-    Standing 4 (Integer 3) x.text.now x.at c.in-Is.filter c.in-Is.field-1 c.in-Is.behind
-filter c =
-    let x = c.args in
-    stands 4 (Integer 3) x.text.now x.at c.in-Is.filter c.in-Is.field-1 c.in-Is.behind (sym c.in-Is.is ∙ c.part_at.ensures)
+-- the filter and the company prefix, from the places where they are read
+filter : (c : In_ok-filter) → Standing 4 (Integer 3) c.args.rest.text.now c.args.rest.at c.in_ok-filter.filter
+filter c = let x = c.args in stands 4 (Integer 3) x.rest.text.now x.rest.at x.rest.inside c.in_ok-filter.filter (sym c.in_ok-filter.was ∙ c.part_at.ensures)
 
-prefix : (c : In-Is-part_at) → Standing 5 Prefix c.args.text.now c.in-Is.behind c.in-Is-part_at.prefix c.in-Is-part_at.digits c.in-Is-part_at.next
+prefix : (c : In_ok-prefix) → Standing 5 Prefix c.args.rest.text.now c.in_ok-filter.filter.next c.in_ok-prefix.prefix
 prefix c =
-    stands 5 Prefix c.args.text.now c.in-Is.behind c.in-Is-part_at.prefix c.in-Is-part_at.digits c.in-Is-part_at.next (sym c.in-Is-part_at.is ∙ c.part_at-in-Is.ensures)
+    let f = filter (goal.at.In_ok-prefix c).In_ok-filter in
+    stands 5 Prefix c.args.rest.text.now c.in_ok-filter.filter.next f.within c.in_ok-prefix.prefix (sym c.in_ok-prefix.was ∙ (rw (c.behind.ensures.text, c.behind.ensures.at) at c.part_at-2.ensures))
 
-pub part_at-requires-in-Is : goal.part_at-requires-in-Is
-part_at-requires-in-Is c = ((filter (goal.at.part_at-requires-in-Is c).In-Is).within, tt)
+pub behind-requires : goal.behind-requires
+behind-requires c = (filter (goal.at.behind-requires c).In_ok-filter).within
+
+pub returns-in_err-prefix : goal.returns-in_err-prefix
+returns-in_err-prefix c =
+    let x = c.args in
+    let p = err_from_is_err_and c.from_residual-in_err-prefix.result c.from_residual-in_err-prefix.ensures.1 in
+    rw (p.1, p.2) (no_prefix x.control x.s x.body c.requires x.rest.text.now x.rest.at _ (filter (goal.at.returns-in_err-prefix c).In_ok-filter) _ (sym c.in_err-prefix.was ∙ (rw (c.behind.ensures.text, c.behind.ensures.at) at c.part_at-2.ensures)))
 
 -- six to twelve digits
-picked : (c : In-Is-part_at) → (6 ≤ c.in-Is-part_at.digits) × (c.in-Is-part_at.digits ≤ 12)
+picked : (c : In_ok-prefix) → (6 ≤ c.in_ok-prefix.prefix.digits) × (c.in_ok-prefix.prefix.digits ≤ 12)
 picked c =
     let q = prefix c in
     let n = length q.part in
     let (l, u) = both (leb 6 n) (leb n 12) q.shape in
     rw q.digits_are (leb→le 6 n l, leb→le n 12 u)
 
+pub behind-requires-2 : goal.behind-requires-2
+behind-requires-2 c = (prefix c).within
+
 pub behind_prefix-requires : goal.behind_prefix-requires
 behind_prefix-requires c =
-    let v = (goal.at.behind_prefix-requires c).In-Is-part_at in
-    ((prefix v).within, rw c.requires.1 at (parts_narrow c.args.s), (picked v).0, (picked v).1)
+    let v = (goal.at.behind_prefix-requires c).In_ok-prefix in
+    (rw c.requires at (parts_narrow c.args.s), (picked v).0, (picked v).1)
 
-pub returns-in-Is-part_at : goal.returns-in-Is-part_at
-returns-in-Is-part_at c =
-    let w = (goal.at.returns-in-Is-part_at c).In-Is-part_at in
-    let v = (goal.at.returns-in-Is-part_at c).In-Is in
+pub returns : goal.returns
+returns c =
     let x = c.args in
-    c.behind_prefix.ensures ∙ with_prefix x.control x.s x.body c.requires.1 x.text.now x.at _ _ _ (filter v) _ _ _ (prefix w)
-
-pub returns-in-Wrong-part_at : goal.returns-in-Wrong-part_at
-returns-in-Wrong-part_at c =
-    let v = (goal.at.returns-in-Wrong-part_at c).In-Is in
-    let x = c.args in
-    c.refused.ensures
-    ∙ no_prefix x.control x.s x.body c.requires.1 x.text.now x.at _ _ _ (filter v) c.in-Wrong-part_at.place (sym c.in-Wrong-part_at.is ∙ c.part_at-in-Is.ensures)
-
-pub returns-in-Wrong : goal.returns-in-Wrong
-returns-in-Wrong c =
-    let x = c.args in
-    c.refused-in-Wrong.ensures ∙ no_filter x.control x.s x.body c.requires.1 x.text.now x.at c.in-Wrong.place (sym c.in-Wrong.is ∙ c.part_at.ensures)
+    rw (c.behind-2.ensures.text, c.behind-2.ensures.at) at c.behind_prefix.ensures ∙ with_prefix x.control x.s x.body c.requires x.rest.text.now x.rest.at _ (filter (goal.at.returns c).In_ok-filter) _ (prefix (goal.at.returns c).In_ok-prefix)

@@ -1,38 +1,49 @@
 -- `read` meets its contract: the start, the control fields, then the name and the parts.
 use Prim.Native.Nat.{◌≤◌}
-use mathlib.Core.Path.{◌≡◌, sym, ◌∙◌}
-use mathlib.Core.Option.{some}
+use mathlib.Core.Path.{◌≡◌, sym, ap, ◌∙◌}
+use Rattle.std.specs.Prelude.{Some, Err}
+use Rattle.std.proofs.lemmas.Result.{err_from_is_err_and}
 use lib.ListN.{length, drop}
 use Rattle.rules.specs.Grammar.{start}
-use Rattle.rules.specs.TextNumbers.{after}
+use Rattle.rules.specs.TextNumbers.{after, control_fields_in, named_tag, tag_of_text}
+use Rattle.scheme.specs.Records.{reading_of}
+use Rattle.parts.specs.Controls.{controlled_by}
 use Rattle.digits.proofs.Starts.{begun_is, begun_not}
-use Rattle.text.proofs.Starts.{twelve, no_start, wrong_fields, with_fields}
+use Rattle.text.proofs.Starts.{twelve, no_start, wrong_fields, behind_fields, with_fields}
 use Rattle.text.proofs.reading.read.Goals as goal
-use Rattle.text.proofs.reading.read.Goals.{Else-not-begins}
+use Rattle.text.proofs.reading.read.Goals.{Else-not-begins, After-control_at, In_ok-fields}
 
 pub returns-then-not-begins : goal.returns-then-not-begins
 returns-then-not-begins c =
     let t = c.args.text.now in
-    c.refused.ensures ∙ no_start t (begun_not start t (sym c.begins.ensures ∙ c.if-not-begins.true))
+    ap Err c.at.ensures ∙ no_start t (begun_not start t (sym c.begins.ensures ∙ c.if-not-begins.true))
 
 -- the start, from the place where it is seen
-begins : (c : Else-not-begins) → let t = c.args.text.now in (12 ≤ length t) × (after start t ≡ some (drop 12 t))
+begins : (c : Else-not-begins) → let t = c.args.text.now in (12 ≤ length t) × (after start t ≡ Some (drop 12 t))
 begins c = begun_is start c.args.text.now 12 twelve (sym c.begins.ensures ∙ c.if-not-begins.false)
 
-pub named_at-requires : goal.named_at-requires
-named_at-requires c =
-    let t = c.args.text.now in
-    (with_fields t (begins (goal.at.named_at-requires c).Else-not-begins).1 c.in-By.control c.in-By.next (sym c.in-By.is ∙ c.control_at.ensures)).0
+-- the control fields, from the place where they are read
+fields : (c : After-control_at) → c.control_at.result ≡ controlled_by (control_fields_in 12 (drop 12 c.args.text.now))
+fields c = rw (c.behind-rest.ensures.text, c.behind-rest.ensures.at, c.start.ensures.text) at c.control_at.ensures
 
-pub returns-in-By : goal.returns-in-By
-returns-in-By c =
-    let t = c.args.text.now in
-    c.named_at.ensures ∙ (with_fields t (begins (goal.at.returns-in-By c).Else-not-begins).1 c.in-By.control c.in-By.next (sym c.in-By.is ∙ c.control_at.ensures)).1
+pub behind-rest-requires : goal.behind-rest-requires
+behind-rest-requires c = rw c.start.ensures.text (begins (goal.at.behind-rest-requires c).Else-not-begins).0
 
-pub returns-in-Wrong : goal.returns-in-Wrong
-returns-in-Wrong c =
-    let t = c.args.text.now in
-    c.refused-in-Wrong.ensures ∙ wrong_fields t (begins (goal.at.returns-in-Wrong c).Else-not-begins).1 c.in-Wrong.place (sym c.in-Wrong.is ∙ c.control_at.ensures)
+pub returns-in_err-fields : goal.returns-in_err-fields
+returns-in_err-fields c =
+    let p = err_from_is_err_and c.from_residual.result c.from_residual.ensures.1 in
+    rw (p.1, p.2)
+    (wrong_fields c.args.text.now (begins (goal.at.returns-in_err-fields c).Else-not-begins).1 _ (sym c.in_err-fields.was ∙ fields (goal.at.returns-in_err-fields c).After-control_at))
 
-pub control_at-requires : goal.control_at-requires
-control_at-requires c = (begins c).0
+-- what stands behind them
+found : (c : In_ok-fields) → let f = c.in_ok-fields.fields in let t = c.args.text.now in
+    (f.next ≤ length t) × (reading_of (named_tag (behind_fields t f)) ≡ reading_of (tag_of_text t))
+found c = with_fields c.args.text.now (begins (goal.at.In_ok-fields c).Else-not-begins).1 _ (sym c.in_ok-fields.was ∙ fields (goal.at.In_ok-fields c).After-control_at)
+
+pub behind-requires : goal.behind-requires
+behind-requires c = rw (c.behind-rest.ensures.text, c.start.ensures.text) (found (goal.at.behind-requires c).In_ok-fields).0
+
+pub returns : goal.returns
+returns c =
+    rw (c.behind.ensures.text, c.behind.ensures.at, c.behind-rest.ensures.text, c.start.ensures.text) at c.named_at.ensures
+    ∙ (found (goal.at.returns c).In_ok-fields).1

@@ -1,28 +1,29 @@
 -- `with_integer` meets its contract: the reference stands before its dot, the integer is the rest.
-use mathlib.Core.Path.{sym, ◌∙◌}
+use mathlib.Core.Path.{sym, ap, ◌∙◌}
+use Rattle.std.specs.Prelude.{Ok}
+use Rattle.std.proofs.lemmas.Result.{err_from_is_err_and}
 use Rattle.rules.specs.declared.Last.TheVariants.{Integer}
 use Rattle.text.proofs.Found.{Standing, stands}
-use Rattle.text.proofs.Lasts.{no_reference, integer_ended}
+use Rattle.text.proofs.Lasts.{not_ended, integer_ended}
 use Rattle.text.proofs.reading.with_integer.Goals as goal
-use Rattle.text.proofs.reading.with_integer.Goals.{In-Is}
+use Rattle.text.proofs.reading.with_integer.Goals.{In_ok-part}
 
--- the reference, from the place where its names are
-reference : (c : In-Is) → let x = c.args in
-    Standing 6 x.reference x.text.now x.at c.in-Is.value c.in-Is.field-1 c.in-Is.next
-reference c =
+-- the reference, from the place where it is read
+reference : (c : In_ok-part) → Standing 6 c.args.reference c.args.rest.text.now c.args.rest.at c.in_ok-part.part
+reference c = let x = c.args in stands 6 x.reference x.rest.text.now x.rest.at x.rest.inside c.in_ok-part.part (sym c.in_ok-part.was ∙ c.part_at.ensures)
+
+pub behind-requires : goal.behind-requires
+behind-requires c = (reference (goal.at.behind-requires c).In_ok-part).within
+
+pub returns-in_err-serial : goal.returns-in_err-serial
+returns-in_err-serial c =
     let x = c.args in
-    stands 6 x.reference x.text.now x.at c.in-Is.value c.in-Is.field-1 c.in-Is.next (sym c.in-Is.is ∙ c.part_at.ensures)
+    let p = err_from_is_err_and c.from_residual-in_err-serial.result c.from_residual-in_err-serial.ensures.1 in
+    rw (p.1, p.2)
+    (not_ended x.head x.reference (Integer x.bits) x.rest.text.now x.rest.at _ (reference (goal.at.returns-in_err-serial c).In_ok-part) _ (sym c.in_err-serial.was ∙ (rw (c.behind.ensures.text, c.behind.ensures.at) at c.integer_to_end.ensures)))
 
-pub integer_to_end-requires : goal.integer_to_end-requires
-integer_to_end-requires c = ((reference (goal.at.integer_to_end-requires c).In-Is).within, c.requires.2)
-
-pub returns-in-Is : goal.returns-in-Is
-returns-in-Is c =
-    let v = (goal.at.returns-in-Is c).In-Is in
+pub returns : goal.returns
+returns c =
     let x = c.args in
-    c.ended.ensures ∙ integer_ended x.head x.reference x.bits x.text.now x.at _ _ _ (reference v) _ c.integer_to_end.ensures
-
-pub returns-in-Wrong : goal.returns-in-Wrong
-returns-in-Wrong c =
-    let x = c.args in
-    c.refused.ensures ∙ no_reference x.head x.reference (Integer x.bits) x.text.now x.at c.in-Wrong.place (sym c.in-Wrong.is ∙ c.part_at.ensures)
+    ap Ok c.tagged.ensures
+    ∙ integer_ended x.head x.reference x.bits x.rest.text.now x.rest.at _ (reference (goal.at.returns c).In_ok-part) _ (sym c.in_ok-serial.was ∙ (rw (c.behind.ensures.text, c.behind.ensures.at) at c.integer_to_end.ensures))

@@ -1,31 +1,32 @@
 -- `with_numeric` meets its contract: the reference stands before its dot, the numeric string is the rest.
-use mathlib.Core.Path.{sym, ◌∙◌}
+use mathlib.Core.Path.{sym, ap, ◌∙◌}
+use Rattle.std.specs.Prelude.{Ok}
+use Rattle.std.proofs.lemmas.Result.{err_from_is_err_and}
 use Rattle.rules.specs.declared.Last.TheVariants.{Numeric}
 use Rattle.text.proofs.Found.{Standing, stands}
-use Rattle.text.proofs.Lasts.{no_reference, numeric_ended}
+use Rattle.text.proofs.Lasts.{not_ended, numeric_ended}
 use Rattle.text.proofs.reading.with_numeric.Goals as goal
-use Rattle.text.proofs.reading.with_numeric.Goals.{In-Is}
+use Rattle.text.proofs.reading.with_numeric.Goals.{In_ok-part}
 
--- the reference, from the place where its names are
-reference : (c : In-Is) → let x = c.args in
-    Standing 6 x.reference x.text.now x.at c.in-Is.value c.in-Is.field-1 c.in-Is.next
-reference c =
+-- the reference, from the place where it is read
+reference : (c : In_ok-part) → Standing 6 c.args.reference c.args.rest.text.now c.args.rest.at c.in_ok-part.part
+reference c = let x = c.args in stands 6 x.reference x.rest.text.now x.rest.at x.rest.inside c.in_ok-part.part (sym c.in_ok-part.was ∙ c.part_at.ensures)
+
+pub behind-requires : goal.behind-requires
+behind-requires c = (reference (goal.at.behind-requires c).In_ok-part).within
+
+pub returns-in_err-serial : goal.returns-in_err-serial
+returns-in_err-serial c =
     let x = c.args in
-    stands 6 x.reference x.text.now x.at c.in-Is.value c.in-Is.field-1 c.in-Is.next (sym c.in-Is.is ∙ c.part_at.ensures)
+    let p = err_from_is_err_and c.from_residual-in_err-serial.result c.from_residual-in_err-serial.ensures.1 in
+    rw (p.1, p.2)
+    (not_ended x.head x.reference (Numeric 0 x.most) x.rest.text.now x.rest.at _ (reference (goal.at.returns-in_err-serial c).In_ok-part) _ (sym c.in_err-serial.was ∙ (rw (c.behind.ensures.text, c.behind.ensures.at) at c.numeric_to_end.ensures)))
 
-pub numeric_to_end-end-requires : goal.numeric_to_end-end-requires
-numeric_to_end-end-requires c = ((reference (goal.at.numeric_to_end-end-requires c).In-Is).within, c.requires.2)
-
-pub returns-in-Is : goal.returns-in-Is
-returns-in-Is c =
-    let v = (goal.at.returns-in-Is c).In-Is in
+pub returns : goal.returns
+returns c =
     let x = c.args in
-    c.ended.ensures ∙ numeric_ended x.head x.reference x.most x.text.now x.at _ _ _ (reference v) _ c.numeric_to_end-end.ensures
+    ap Ok c.tagged.ensures
+    ∙ numeric_ended x.head x.reference x.most x.rest.text.now x.rest.at _ (reference (goal.at.returns c).In_ok-part) _ (sym c.in_ok-serial.was ∙ (rw (c.behind.ensures.text, c.behind.ensures.at) at c.numeric_to_end.ensures))
 
-pub returns-in-Wrong : goal.returns-in-Wrong
-returns-in-Wrong c =
-    let x = c.args in
-    c.refused.ensures ∙ no_reference x.head x.reference (Numeric 0 x.most) x.text.now x.at c.in-Wrong.place (sym c.in-Wrong.is ∙ c.part_at.ensures)
-
-pub overflow_sub-text : goal.overflow_sub-text
-overflow_sub-text c = (reference (goal.at.overflow_sub-text c).In-Is).within
+pub overflow_sub-rest : goal.overflow_sub-rest
+overflow_sub-rest c = (reference (goal.at.overflow_sub-rest c).In_ok-part).within

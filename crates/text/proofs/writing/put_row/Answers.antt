@@ -4,7 +4,7 @@ use mathlib.Core.Path.{◌≡◌, ap, ◌∙◌}
 use native.Mathlib.Omega.{arith}
 use Rattle.rules.specs.Schemes.{cell, row_of, row_at}
 use Rattle.rules.proofs.Rows.{row_picked}
-use Rattle.digits.proofs.Joins.{number_put}
+use Rattle.digits.proofs.Joins.{digits_end}
 use Rattle.text.proofs.Rooms.{reference_short}
 use Rattle.text.proofs.writing.put_row.Goals as goal
 use Rattle.text.proofs.writing.put_row.Goals.{After-reference-cell}
@@ -22,14 +22,11 @@ module _ (c : After-reference-cell) where
   few =
       rw digits_are (reference_short c.args.table c.args.tag.digits c.requires.0.least c.requires.0.most)
 
-pub put_digits-requires : goal.put_digits-requires
-put_digits-requires c = omega (arith, few (goal.at.put_digits-requires c).After-reference-cell)
-
-pub overflow_add-result : goal.overflow_add-result
-overflow_add-result c = omega (arith, few (goal.at.overflow_add-result c).After-reference-cell)
+pub digits-requires : goal.digits-requires
+digits-requires c = omega (arith, few (goal.at.digits-requires c).After-reference-cell, c.requires.1)
 
 pub returns : goal.returns
 returns c =
     let reference = (goal.at.returns c).After-reference-cell in
-    let tag = c.args.tag in
-    record { puts = rw (← digits_are reference) (number_put c.reference-cell.result.digits tag.reference _ c.put_digits.ensures); upper_bound = omega (arith, few reference) }
+    let adds = c.digits.ensures in
+    record { adds = rw (← digits_are reference) adds; upper_bound = omega (arith, digits_end c.reference-cell.result.digits c.args.tag.reference adds, few reference) }
