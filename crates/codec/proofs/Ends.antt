@@ -55,13 +55,14 @@ pub bank_numbered : (b : List ℕ) → Numbered (bank_rules b)
 unfolding raw_rules bank_rules
 bank_numbered b = (lit≤ tt, (lit≤ tt, (lit≤ tt, (lit≤ tt, (lit≤ tt, (lit≤ tt, (lit≤ tt, (lit≤ tt, (lit≤ tt, (lit≤ tt, (lit≤ tt, tt)))))))))))
 
--- What the code has read: refused by the written rules, with the number of its rule, and none is 0; or taken, and the record is the tag's.
-module _ {X : Type 0} (rs : List Rule) (numbers : Numbered rs) (Right : X → Type 0) where
-  pub positive : (a : Answer X) → Reads rs Right a → (n p : ℕ) → a ≡ refused n p → 0 < n
-  positive a h n p e = (rw e at h).1
+-- What the code has read: refused by the written rules, and no number is 0, whatever numbers the rules have.
+pub positive : {X : Type 0} (rs : List Rule) (Right : X → Type 0) (a : Answer X) → Reads rs Right a → (n p : ℕ) → a ≡ refused n p → 0 < n
+positive rs Right a h n p e = (rw e at h).1
 
+-- It is refused with the number of its rule; or taken, and the record is the tag's.
+module _ {X : Type 0} (rs : List Rule) (numbers : Numbered rs) (Right : X → Type 0) where
   number_is : (n p : ℕ) → Reads rs Right (refused n p) → number (rule_of n) ≡ n
-  number_is n p h = number_of_rule n (positive (refused n p) h n p refl) (first_numbered rs numbers n p h.0)
+  number_is n p h = number_of_rule n (positive rs Right (refused n p) h n p refl) (first_numbered rs numbers n p h.0)
 
   pub is_refused : (n p : ℕ) → Reads rs Right (refused n p) → (e : Refusal) → e ≡ by (rule_of n) p → ◌≡◌ {A = Answer X} (refused n p) (refused (number e.rule) e.place)
   is_refused n p h e same = rw (same, number_is n p h)

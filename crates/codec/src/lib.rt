@@ -93,15 +93,20 @@ pub fn raw_line(bank: &[u8], out: &mut [u8]) -> Answer
 }
 
 // The line on the screen ("Screen"): all of the tag text for 0, all of the raw text for 11 to 19, the raw text's empty start for every
-// other number. It is a part of that text, not a copy. The number is no `Rule`: a screen hands over any, and 0 is none.
+// other number. It is a part of that text, not a copy. The number is no `Rule`: a screen hands over any, and 0 is none. No `match`: a pattern would
+// write the numbers of two rules a second time.
 pub fn screen<'a>(tag: &'a [u8], raw: &'a [u8], number: u8) -> &'a [u8]
     ensures shown { result.now ≡ screenOf tag.now raw.now number }
     ensures part { result.ref_ptr ≡ chosen number tag.entry.ref_ptr raw.entry.ref_ptr }
 {
-    match number {
-        0 => tag,
-        // from Rule::Toggle to Rule::String
-        11..=19 => raw,
-        _ => &raw[..0],
+    if number == 0 {
+        return tag;
     }
+    if number < Rule::Toggle.number() {
+        return &raw[..0];
+    }
+    if Rule::String.number() < number {
+        return &raw[..0];
+    }
+    raw
 }

@@ -18,6 +18,9 @@ pub fn show_again(text: &[u8], words: usize, bank: &mut [u8], out: &mut [u8]) ->
     ensures again { answered result out.new ≡ shown_again words text.now bank.old out.old }
     ensures written { bank.new ≡ (text_to_bank words text.now bank.old).output }
 {
-    let written = crate::text_to_bank(text, words, bank)?;
-    crate::bank_to_text(&bank[..written.length], out)
+    // a `match`, not `?`: `other_number_after_a_refusal` (must-fail) changes the refusal
+    match crate::text_to_bank(text, words, bank) {
+        Ok(written) => crate::bank_to_text(&bank[..written.length], out),
+        Err(refusal) => Err(refusal),
+    }
 }

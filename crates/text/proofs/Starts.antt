@@ -15,6 +15,7 @@ use Rattle.rules.proofs.Answers.{Gives, Settled}
 use Rattle.rules.proofs.Starts.{after_is, begins_behind}
 use Rattle.rules.proofs.ControlFaults.{control_settled}
 use Rattle.rules.proofs.TextReads.{named_is}
+use Rattle.scheme.specs.declared.refusal.Rule.TheVariants.{ControlFields as ControlFieldsRule}
 use Rattle.scheme.specs.declared.refusal.Refusal.{Refusal}
 use Rattle.scheme.specs.Refusals.{rule_of, by, refusal}
 use Rattle.scheme.specs.Records.{reading_of}
@@ -92,6 +93,13 @@ module _ (t : List ℕ) where
       where
         go : (a : Answer Controlled) → control_fields_in 12 (drop 12 t) ≡ a → Err r ≡ controlled_by a → Err r ≡ reading_of (tag_of_text t)
         go (refused n q) f h = let x : r ≡ by (rule_of n) q = cc in rw (begins, twelve, f, x)
+        go (taken k) f h = let x : ◌≡◌ {A = ℕ} 0 1 = cc in absurd (omega arith)
+
+    pub by_control_fields : (r : Refusal) → Err r ≡ controlled_by (control_fields_in 12 (drop 12 t)) → r ≡ by ControlFieldsRule r.place
+    by_control_fields r e = go (control_fields_in 12 (drop 12 t)) settled e
+      where
+        go : (a : Answer Controlled) → Fields a → Err r ≡ controlled_by a → r ≡ by ControlFieldsRule r.place
+        go (refused n q) f h = let x : r ≡ by (rule_of n) q = cc in rw (x, f.0)
         go (taken k) f h = let x : ◌≡◌ {A = ℕ} 0 1 = cc in absurd (omega arith)
 
     pub with_fields : (c : CodeControlled) → Ok c ≡ controlled_by (control_fields_in 12 (drop 12 t))

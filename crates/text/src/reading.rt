@@ -226,6 +226,9 @@ pub fn read(text: &[u8]) -> Reading
         return Err(Rule::Start.at(0));
     }
     let rest = Rest::start(text).behind(START);
-    let fields = control_at(rest)?;
-    named_at(rest.behind(fields.next), fields.control)
+    // a `match`, not `?`: the rule is named here, where `twenty_after_three` (must-fail) takes another
+    match control_at(rest) {
+        Ok(fields) => named_at(rest.behind(fields.next), fields.control),
+        Err(wrong) => Err(Rule::ControlFields.at(wrong.place)),
+    }
 }
