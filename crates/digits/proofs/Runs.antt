@@ -125,6 +125,12 @@ run_long {t = t} {ds = ds} r h =
     let rest : List ℕ = drop (length ds) t in
     (map (◌- code "0") rest, digits_some t h ∙ ap Some (run_first r), rw (length-map rest (◌- code "0"), length-drop (length ds) t) (omega (arith, run_within r)))
 
+pub run_full : {n : ℕ} {t ds : List ℕ} → Leading n t ds → all is_digit t ≡ true → n ≤ length t → length ds ≡ n
+run_full (stop full) h l = refl
+run_full (stop ended) h l = omega arith
+run_full (stop (other e)) h l = clash h (rw e)
+run_full (more e r) h l = ap suc (run_full r (rw e at h) (omega arith))
+
 pub run_whole : {n : ℕ} {t ds : List ℕ} → Leading n t ds → length ds ≡ length t → digits_in t ≡ Some ds
 run_whole (stop {t = []} s) l = refl
 run_whole (stop {t = x ∷ t} s) l = absurd (omega arith)

@@ -156,6 +156,9 @@ strung_scheme Grai170 t b e = let (k, m) = some_pair_parts _ _ _ _ e in rw (← 
 strung_scheme Gdti174 t b e = let (k, m) = some_pair_parts _ _ _ _ e in rw (← k, ← m) (refl, refl, refl)
 strung_scheme _ t b e = cc
 
+pub string_exact : (s : Scheme) (t : Table) (b : ℕ) → string_in (aboutScheme s).parts ≡ Some (t, b) → exact t ≡ true
+string_exact s t b e = (strung_scheme s t b e).1
+
 -- The tag whose text it is.
 pub record Straight (t : List ℕ) (s : Scheme) (n : ℕ) : Type 0 where
   pub within : n ≤ length t
