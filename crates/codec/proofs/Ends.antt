@@ -59,6 +59,9 @@ bank_numbered b = (lit≤ tt, (lit≤ tt, (lit≤ tt, (lit≤ tt, (lit≤ tt, (l
 pub positive : {X : Type 0} (rs : List Rule) (Right : X → Type 0) (a : Answer X) → Reads rs Right a → (n p : ℕ) → a ≡ refused n p → 0 < n
 positive rs Right a h n p e = (rw e at h).1
 
+pub no_zero : {X : Type 0} (rs : List Rule) (Right : X → Type 0) (p : ℕ) → ¬ (Reads rs Right (refused 0 p))
+no_zero rs Right p h = let below : 0 < 0 = positive rs Right (refused 0 p) h 0 p refl in omega (arith, below)
+
 -- It is refused with the number of its rule; or taken, and the record is the tag's.
 module _ {X : Type 0} (rs : List Rule) (numbers : Numbered rs) (Right : X → Type 0) where
   number_is : (n p : ℕ) → Reads rs Right (refused n p) → number (rule_of n) ≡ n

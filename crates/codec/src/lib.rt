@@ -23,6 +23,11 @@ pub const TEXT_ROOM: usize = 160;
 // The most words that a bank can have: five bits count them.
 pub const MOST_WORDS: usize = 31;
 
+// The first and the last of the numbers for which the screen shows the raw line.
+const FIRST_SHOWN_RAW: u8 = Rule::Toggle as u8;
+
+const LAST_SHOWN_RAW: u8 = Rule::String as u8;
+
 // What an accepted call has written: so many bytes; and the W of the bank (document 02, C-15), the one that is written or the one that was read.
 #[derive(Clone, Copy)]
 pub struct Written {
@@ -93,20 +98,14 @@ pub fn raw_line(bank: &[u8], out: &mut [u8]) -> Answer
 }
 
 // The line on the screen ("Screen"): all of the tag text for 0, all of the raw text for 11 to 19, the raw text's empty start for every
-// other number. It is a part of that text, not a copy. The number is no `Rule`: a screen hands over any, and 0 is none. No `match`: a pattern would
-// write the numbers of two rules a second time.
+// other number. It is a part of that text, not a copy. The number is no `Rule`: a screen hands over any, and 0 is none.
 pub fn screen<'a>(tag: &'a [u8], raw: &'a [u8], number: u8) -> &'a [u8]
     ensures shown { result.now ≡ screenOf tag.now raw.now number }
     ensures part { result.ref_ptr ≡ chosen number tag.entry.ref_ptr raw.entry.ref_ptr }
 {
-    if number == 0 {
-        return tag;
+    match number {
+        0 => tag,
+        FIRST_SHOWN_RAW..=LAST_SHOWN_RAW => raw,
+        _ => &raw[..0],
     }
-    if number < Rule::Toggle.number() {
-        return &raw[..0];
-    }
-    if Rule::String.number() < number {
-        return &raw[..0];
-    }
-    raw
 }

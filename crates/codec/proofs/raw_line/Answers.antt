@@ -1,5 +1,6 @@
 -- `raw_line` meets its contract: its tests are rule 1, and the rules 9 and 10 of the bank's words.
 use mathlib.Core.Path.{◌≡◌, ap, ◌∙◌}
+use native.Mathlib.Omega.{arith}
 use Rattle.std.specs.Prelude.{Err}
 use Rattle.std.proofs.lemmas.Result.{err_from_is_err_and}
 use Rattle.rules.specs.BankNumbers.{words_in}
@@ -28,7 +29,7 @@ returns-in_err-words c =
     rw same (refuses text_room x.out.now c.if-out-lt-TEXT_ROOM.false r (raw_in b) (raw_refused b _ _ e))
 
 pub write-length-requires : goal.write-length-requires
-write-length-requires c = (count_taken (words_in c.args.bank.now) c.in_ok-words.words c.in_ok-words.ensures, c.if-out-lt-TEXT_ROOM.false)
+write-length-requires c = (count_taken (words_in c.args.bank.now) c.in_ok-words.words c.in_ok-words.ensures, omega (arith, c.if-out-lt-TEXT_ROOM.false))
 
 pub returns : goal.returns
 unfolding raw_line
